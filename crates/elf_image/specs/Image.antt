@@ -1,0 +1,168 @@
+-- Which ELF64 files this simulator takes, and the program that such a file holds. The fields are those
+-- of the System V ABI, the machine that of the RISC-V ELF psABI; which files are refused, and the
+-- limits, are this simulator's own.
+use Rattle.std.specs.Prelude.{ℕ, ◌+◌, ◌*◌, ◌/◌, ◌%◌, ◌^◌, ◌==◌, ◌≤◌, ◌<◌, ◌≡◌, ◌&&◌, ◌||◌, Bool, true, false, not, List, [], ◌∷◌, length, map, take, drop, min, max, nat_lt, nat_le, nat_eq, if◌then◌else◌, Result, Ok, Err, All, sum_by}
+use Rattle.std.specs.List.{list_any, starts_with}
+use Rattle.elf_image.specs.declared.headers.ProgramHeader.{ProgramHeader}
+use Rattle.elf_image.specs.Header.{number_at, headers, loads, class, data_encoding, ident_version, e_type, e_machine, e_entry, e_phoff, e_phentsize, e_phnum}
+use Rattle.elf_image.specs.declared.program.Segment.{Segment}
+use Rattle.elf_image.specs.declared.refusal.ImageFault.{ImageFault}
+use Rattle.elf_image.specs.declared.refusal.ImageFault.TheVariants.{Form}
+use Rattle.elf_image.specs.declared.refusal.ImageRefusal.{ImageRefusal}
+use Rattle.elf_image.specs.declared.refusal.ImageRefusal.TheVariants.{Bad, NoMemory}
+
+-- what an image holds: where the program starts, and its segments in the file's order
+pub record Program : Type 0 where
+  pub entry : ℕ
+  pub segments : List Segment
+
+-- what a segment's flags grant: 1 is execute, 2 is write, 4 is read
+abbrev pub grants_execute : Segment → Bool
+grants_execute s = s.flags % 2 == 1
+
+abbrev pub grants_write : Segment → Bool
+grants_write s = s.flags / 2 % 2 == 1
+
+abbrev pub grants_read : Segment → Bool
+grants_read s = s.flags / 4 % 2 == 1
+
+-- the first address past a segment
+abbrev pub segment_end : Segment → ℕ
+segment_end s = s.vaddr + s.memsz
+
+-- whether an address lies in a segment
+abbrev pub holds : Segment → ℕ → Bool
+holds s address = nat_le s.vaddr address && nat_lt address (segment_end s)
+
+-- whether some segment that grants a right has an address
+abbrev pub some_reads : Program → ℕ → Bool
+some_reads p address = list_any (λ s. grants_read s && holds s address) p.segments
+
+abbrev pub some_writes : Program → ℕ → Bool
+some_writes p address = list_any (λ s. grants_write s && holds s address) p.segments
+
+abbrev pub some_executes : Program → ℕ → Bool
+some_executes p address = list_any (λ s. grants_execute s && holds s address) p.segments
+
+-- whether some address lies in both segments: the later of the starts is before the earlier of the ends
+abbrev pub share_byte : Segment → Segment → Bool
+share_byte s t = nat_lt (max s.vaddr t.vaddr) (min (segment_end s) (segment_end t))
+
+-- the segment of a header: the bytes that the file has for it, and the low three bits of the flags
+abbrev pub segment_of : List ℕ → ProgramHeader → Segment
+segment_of bytes h = record {
+  vaddr = h.vaddr;
+  memsz = h.memsz;
+  flags = h.flags % 8;
+  bytes = take h.filesz (drop h.offset bytes);
+}
+
+-- the program of a file
+abbrev pub program : List ℕ → Program
+program bytes = record { entry = e_entry bytes; segments = map (segment_of bytes) (loads bytes) }
+
+-- the refusals, in order
+
+-- more than 16,777,216 bytes
+abbrev pub is_too_long : List ℕ → Bool
+is_too_long bytes = nat_lt 16777216 (length bytes)
+
+-- fewer bytes than the file header has
+abbrev pub is_short : List ℕ → Bool
+is_short bytes = nat_lt (length bytes) 64
+
+-- the first four bytes aren't 7F and `ELF`
+abbrev pub has_wrong_magic : List ℕ → Bool
+has_wrong_magic bytes = not (starts_with nat_eq bytes (0x7F ∷ 0x45 ∷ 0x4C ∷ 0x46 ∷ []))
+
+-- not of 64 bits, not little-endian, or not of version 1
+abbrev pub has_wrong_class : List ℕ → Bool
+has_wrong_class bytes = not (class bytes == 2 && data_encoding bytes == 1 && ident_version bytes == 1)
+
+-- not an executable file
+abbrev pub has_wrong_kind : List ℕ → Bool
+has_wrong_kind bytes = not (e_type bytes == 2)
+
+-- not for RISC-V
+abbrev pub has_wrong_machine : List ℕ → Bool
+has_wrong_machine bytes = not (e_machine bytes == 243)
+
+-- a loaded header whose bytes in the file are more than those in memory, or pass the file's end
+abbrev pub has_wrong_size : List ℕ → ProgramHeader → Bool
+has_wrong_size bytes h = nat_lt h.memsz h.filesz || nat_lt (length bytes) (h.offset + h.filesz)
+
+-- program headers that aren't of 56 bytes, none or more than 64 of them, a table of them that passes the
+-- file's end, or a loaded one with wrong sizes
+abbrev pub has_wrong_headers : List ℕ → Bool
+has_wrong_headers bytes =
+    not (e_phentsize bytes == 56) || e_phnum bytes == 0 || nat_lt 64 (e_phnum bytes)
+    || nat_lt (length bytes) (e_phoff bytes + 56 * e_phnum bytes) || list_any (has_wrong_size bytes) (loads bytes)
+
+-- some header is of a type: 2 is dynamic linking, 3 an interpreter, 7 thread-local storage
+abbrev pub has_kind : ℕ → List ℕ → Bool
+has_kind kind bytes = list_any (λ h. h.kind == kind) (headers bytes)
+
+-- a segment ends above 2^32, or the segments have more than 268,435,456 bytes in all
+abbrev pub reaches_too_far : List Segment → Bool
+reaches_too_far segments =
+    list_any (λ s. nat_lt (2 ^ 32) (segment_end s)) segments || nat_lt 268435456 (sum_by (λ s. s.memsz) segments)
+
+-- two segments share a byte: the first with a later one, or two of the rest
+abbrev pub overlaps : List Segment → Bool
+overlaps [] = false
+overlaps (s ∷ rest) = list_any (share_byte s) rest || overlaps rest
+
+-- a segment can be both written and executed
+abbrev pub has_write_exec : List Segment → Bool
+has_write_exec segments = list_any (λ s. grants_write s && grants_execute s) segments
+
+-- the entry isn't a multiple of 4, or lies in no executable segment
+abbrev pub has_wrong_entry : Program → Bool
+has_wrong_entry p = not (p.entry % 4 == 0 && some_executes p p.entry)
+
+-- the file header is as it must be
+abbrev pub has_file_header : List ℕ → Bool
+has_file_header bytes =
+    not (is_too_long bytes) && not (is_short bytes) && not (has_wrong_magic bytes) && not (has_wrong_class bytes)
+    && not (has_wrong_kind bytes) && not (has_wrong_machine bytes)
+
+-- the program can be laid out in memory and started
+abbrev pub is_loadable : Program → Bool
+is_loadable p =
+    not (reaches_too_far p.segments) && not (overlaps p.segments) && not (has_write_exec p.segments)
+    && not (has_wrong_entry p)
+
+-- none of the refusals stands
+abbrev pub is_accepted : List ℕ → Bool
+is_accepted bytes =
+    has_file_header bytes && not (has_wrong_headers bytes) && not (has_kind 2 bytes) && not (has_kind 3 bytes)
+    && not (has_kind 7 bytes) && is_loadable (program bytes)
+
+-- the file has one program header, and its flags are read and execute
+abbrev pub is_one_text : List ℕ → Bool
+is_one_text bytes = e_phnum bytes == 1 && number_at 4 (e_phoff bytes + 4) bytes == 5
+
+-- the program of a file, or why it is refused
+abbrev pub image_of : List ℕ → Result Program ImageFault
+image_of bytes = if is_accepted bytes && is_one_text bytes then Ok (program bytes) else Err Form
+
+-- what reading a file answers: what the file holds, or that memory ran out
+abbrev pub Reads : Result Program ImageRefusal → Result Program ImageFault → Type 0
+Reads (Ok image) held = held ≡ Ok image
+Reads (Err (Bad fault)) held = held ≡ Err fault
+Reads (Err NoMemory) held = Unit {0}
+
+-- what is known of each segment of an image
+pub record IsSegment (s : Segment) : Type 0 where
+  pub bytes_fit : length s.bytes ≤ s.memsz
+  pub three_flags : s.flags < 8
+  pub low_end : segment_end s ≤ 2 ^ 32
+  pub not_both : (grants_write s && grants_execute s) ≡ false
+
+-- what is known of every image
+pub record IsProgram (p : Program) : Type 0 where
+  pub each : All IsSegment p.segments
+  pub size : sum_by (λ s. s.memsz) p.segments ≤ 268435456
+  pub apart : overlaps p.segments ≡ false
+  pub aligned : p.entry % 4 ≡ 0
+  pub entered : some_executes p p.entry ≡ true

@@ -1,0 +1,4 @@
+pub mod Header
+pub mod Image
+pub mod Layout
+pub mod OneText

@@ -1,0 +1,18 @@
+//! Which ELF64 files are programs, and where a program lies in memory: its segments, heap and stack,
+//! the rights of each byte, and the words that can be fetched.
+#![tactic(auto)]
+
+mod address_map;
+mod headers;
+mod program;
+mod reading;
+mod refusal;
+
+pub use address_map::{HEAP_BYTES, Layout, Right, STACK_BYTES, World};
+pub use headers::FILE_LIMIT;
+pub use program::{Image, Segment};
+pub use reading::read_image;
+pub use refusal::{ImageFault, ImageRefusal};
+
+#[cfg(test)]
+mod tests;

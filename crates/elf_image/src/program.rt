@@ -1,0 +1,146 @@
+ghost use Rattle.std.specs.Prelude.{◌≡◌, ◌+◌, ◌^◌, ◌<◌, ◌≤◌, find, IfSome};
+ghost use Rattle.std.specs.Bool.{OnTrue};
+ghost use Rattle.std.specs.Option.{option_copied};
+ghost use Rattle.elf_image.specs.Layout.{byte_of, holds_word, is_executable};
+ghost use Rattle.elf_image.specs.Image.{holds, grants_execute, grants_write, grants_read, some_reads, some_writes, IsProgram};
+
+use sim_base::Bytes;
+use std::marker::Model;
+
+/// A part of a program that is loaded into memory: the addresses from `vaddr` to `vaddr + memsz`.
+#[derive(Drop)]
+pub struct Segment {
+    /// Its first address.
+    pub vaddr: u64,
+    /// How many bytes it has in memory.
+    pub memsz: u64,
+    /// What may be done there: 1 is execute, 2 is write, 4 is read. Below 8.
+    pub flags: u32,
+    /// Its first bytes, at most `memsz`; those past them are zero.
+    pub bytes: Bytes,
+}
+
+impl Segment {
+    /// Whether an address lies in the segment.
+    pub(crate) fn holds(&self, address: u64) -> bool
+        ensures { result ≡ holds self.now address }
+    {
+        self.vaddr <= address && address - self.vaddr < self.memsz
+    }
+
+    /// Whether the four bytes at an address lie in the segment.
+    pub(crate) fn holds_word(&self, address: u64) -> bool
+        ensures { result ≡ holds_word self.now address }
+    {
+        self.vaddr <= address && self.memsz >= 4 && address - self.vaddr <= self.memsz - 4
+    }
+
+    /// The byte at an address of the segment before the program runs: the file's, or 0 past those.
+    pub(crate) fn start_byte(&self, address: u64) -> u8
+        requires { self.now.vaddr ≤ address }
+        ensures { result ≡ byte_of self.now address }
+    {
+        let place = (address - self.vaddr) as usize;
+        self.bytes.as_slice().get(place).copied().unwrap_or(0)
+    }
+
+    /// Whether its bytes may be executed.
+    pub(crate) fn is_executable(&self) -> bool
+        ensures { result ≡ grants_execute self.now }
+    {
+        self.flags % 2 == 1
+    }
+
+    /// Whether its bytes may be written.
+    pub(crate) fn is_writable(&self) -> bool
+        ensures { result ≡ grants_write self.now }
+    {
+        self.flags / 2 % 2 == 1
+    }
+
+    /// Whether its bytes may be read.
+    pub(crate) fn is_readable(&self) -> bool
+        ensures { result ≡ grants_read self.now }
+    {
+        self.flags / 4 % 2 == 1
+    }
+}
+
+/// A program that can be laid out in memory and started. Its segments don't overlap, end at or below
+/// 2^32 and have at most 268,435,456 bytes in all, none can be both written and executed, and the entry
+/// is a multiple of 4 in an executable one.
+#[derive(Drop)]
+pub struct Image {
+    entry: u64,
+    segments: Vec<Segment>,
+}
+
+impl Model for Image {
+    ghost use Rattle.elf_image.specs.Image.{Program, IsProgram};
+
+    ghost Value = { Program };
+
+    ghost view = { λ i. record { entry = i.entry; segments = i.segments.items } };
+
+    ghost invariant = { λ i. IsProgram (record { entry = i.entry; segments = i.segments.items }) };
+}
+
+impl Image {
+    /// The image of an entry and segments that make a program.
+    pub(crate) fn from_parts(entry: u64, segments: Vec<Segment>) -> Image
+        requires { IsProgram (record { entry = entry; segments = segments.items }) }
+        ensures { result ≡ record { entry = entry; segments = segments.items } }
+    {
+        Image { entry, segments }
+    }
+
+    /// The address of the first instruction.
+    pub fn entry(&self) -> u64
+        ensures value { result ≡ self.now.entry }
+        ensures program { IsProgram self.now }
+    {
+        self.entry
+    }
+
+    /// The segments, in the file's order.
+    pub fn segments(&self) -> &[Segment]
+        ensures value { result.now ≡ self.now.segments }
+        ensures program { IsProgram self.now }
+    {
+        self.segments.as_slice()
+    }
+
+    /// The first segment that has an address.
+    pub(crate) fn segment_at(&self, address: u64) -> Option<&Segment>
+        ensures value { option_copied result ≡ find (λ s. holds s address) self.now.segments }
+        ensures starts { IfSome result (λ s. s.now.vaddr ≤ address) }
+    {
+        self.segments.iter().find(|segment| segment.holds(address))
+    }
+
+    /// Whether a readable segment has an address.
+    pub(crate) fn is_readable(&self, address: u64) -> bool
+        ensures { result ≡ some_reads self.now address }
+    {
+        self.segments
+            .iter()
+            .any(|segment| segment.is_readable() && segment.holds(address))
+    }
+
+    /// Whether a writable segment has an address.
+    pub(crate) fn is_writable(&self, address: u64) -> bool
+        ensures { result ≡ some_writes self.now address }
+    {
+        self.segments
+            .iter()
+            .any(|segment| segment.is_writable() && segment.holds(address))
+    }
+
+    /// Whether one executable segment has the four bytes at an address.
+    pub(crate) fn is_executable(&self, address: u64) -> bool
+        ensures value { result ≡ is_executable self.now address }
+        ensures low { OnTrue result (address + 3 < 2 ^ 32) }
+    {
+        self.segments.iter().any(|segment| segment.is_executable() && segment.holds_word(address))
+    }
+}

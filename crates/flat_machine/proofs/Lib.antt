@@ -1,0 +1,5 @@
+pub mod MemoryLemmas
+pub mod StartLemmas
+pub mod MoveLemmas
+pub mod RunLemmas
+pub mod LegalLemmas

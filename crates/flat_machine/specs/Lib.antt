@@ -1,0 +1,10 @@
+pub mod Memory
+pub mod Regions
+pub mod State
+pub mod Calls
+pub mod Action
+pub mod Serving
+pub mod Run
+pub mod Gives
+pub use Rattle.elf_image.specs.Image
+pub use Rattle.elf_image.specs.Layout

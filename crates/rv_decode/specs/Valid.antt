@@ -1,0 +1,77 @@
+-- Which values of `Instr` are instructions: its name belongs to its form, registers are below 32, and
+-- immediates and amounts are such as the form can give. From the RISC-V ISA manual's formats.
+use Rattle.std.specs.Prelude.{ℕ, Bool, true, false, IsTrue, ◌≡◌, ◌<◌, ◌≤◌, ◌-◌, ◌^◌, ◌%◌, ◌⊎◌}
+use Rattle.rv_decode.specs.declared.instr.Instr.{Instr}
+use Rattle.rv_decode.specs.declared.instr.Instr.TheVariants.{Upper, Jal, Jalr, Branch, Imm, Shift, Reg, Fence, Ecall, Ebreak}
+use Rattle.rv_decode.specs.declared.instr.Op.{Op}
+use Rattle.rv_decode.specs.declared.instr.Op.TheVariants.{Lui, Auipc, Beq, Bne, Blt, Bge, Bltu, Bgeu, Addi, Slti, Sltiu, Xori, Ori, Andi, Addiw, Slli, Srli, Srai, Slliw, Srliw, Sraiw, Add, Sll, Slt, Sltu, Xor, Srl, Or, And, Sub, Sra, Addw, Sllw, Srlw, Subw, Sraw}
+
+-- which names each form has
+abbrev pub is_upper : Op → Bool
+is_upper Lui = true
+is_upper Auipc = true
+is_upper _ = false
+
+abbrev pub is_branch : Op → Bool
+is_branch Beq = true
+is_branch Bne = true
+is_branch Blt = true
+is_branch Bge = true
+is_branch Bltu = true
+is_branch Bgeu = true
+is_branch _ = false
+
+abbrev pub is_immediate : Op → Bool
+is_immediate Addi = true
+is_immediate Slti = true
+is_immediate Sltiu = true
+is_immediate Xori = true
+is_immediate Ori = true
+is_immediate Andi = true
+is_immediate Addiw = true
+is_immediate _ = false
+
+-- the shifts by a constant: amounts are below 64, and below 32 in the W forms
+abbrev pub IsAmount : Op → ℕ → Type 0
+IsAmount Slli amount = amount < 64
+IsAmount Srli amount = amount < 64
+IsAmount Srai amount = amount < 64
+IsAmount Slliw amount = amount < 32
+IsAmount Srliw amount = amount < 32
+IsAmount Sraiw amount = amount < 32
+IsAmount _ amount = ⊥
+
+abbrev pub is_register : Op → Bool
+is_register Add = true
+is_register Sll = true
+is_register Slt = true
+is_register Sltu = true
+is_register Xor = true
+is_register Srl = true
+is_register Or = true
+is_register And = true
+is_register Sub = true
+is_register Sra = true
+is_register Addw = true
+is_register Sllw = true
+is_register Srlw = true
+is_register Subw = true
+is_register Sraw = true
+is_register _ = false
+
+-- a signed number of so many bits, seen modulo 2 ^ 64: below half their range, or at most that far below 2 ^ 64
+abbrev pub IsSigned : ℕ → ℕ → Type 0
+IsSigned bits n = (n < 2 ^ (bits - 1)) ⊎ ((2 ^ 64 - 2 ^ (bits - 1) ≤ n) × (n < 2 ^ 64))
+
+-- a value that is an instruction
+abbrev pub IsValid : Instr → Type 0
+IsValid (Upper op rd imm) = IsTrue (is_upper op) × (rd < 32) × IsSigned 32 imm × (imm % 2 ^ 12 ≡ 0)
+IsValid (Jal rd imm) = (rd < 32) × IsSigned 21 imm × (imm % 2 ≡ 0)
+IsValid (Jalr rd rs1 imm) = (rd < 32) × (rs1 < 32) × IsSigned 12 imm
+IsValid (Branch op rs1 rs2 imm) = IsTrue (is_branch op) × (rs1 < 32) × (rs2 < 32) × IsSigned 13 imm × (imm % 2 ≡ 0)
+IsValid (Imm op rd rs1 imm) = IsTrue (is_immediate op) × (rd < 32) × (rs1 < 32) × IsSigned 12 imm
+IsValid (Shift op rd rs1 amount) = IsAmount op amount × (rd < 32) × (rs1 < 32)
+IsValid (Reg op rd rs1 rs2) = IsTrue (is_register op) × (rd < 32) × (rs1 < 32) × (rs2 < 32)
+IsValid (Fence rd rs1 imm) = (rd < 32) × (rs1 < 32) × IsSigned 12 imm
+IsValid Ecall = Unit {0}
+IsValid Ebreak = Unit {0}

@@ -1,0 +1,66 @@
+/// The name of an instruction. Each belongs to one form of `Instr`.
+#[derive(Clone, Copy, Debug, PartialEq, Eq)]
+pub enum Op {
+    Lui,
+    Auipc,
+    Beq,
+    Bne,
+    Blt,
+    Bge,
+    Bltu,
+    Bgeu,
+    Addi,
+    Slti,
+    Sltiu,
+    Xori,
+    Ori,
+    Andi,
+    Addiw,
+    Slli,
+    Srli,
+    Srai,
+    Slliw,
+    Srliw,
+    Sraiw,
+    Add,
+    Sll,
+    Slt,
+    Sltu,
+    Xor,
+    Srl,
+    Or,
+    And,
+    Sub,
+    Sra,
+    Addw,
+    Sllw,
+    Srlw,
+    Subw,
+    Sraw,
+}
+
+/// A decoded instruction, by its form in the RISC-V ISA manual. Registers are numbers below 32.
+/// Immediates are sign-extended to 64 bits, as numbers modulo 2^64.
+#[derive(Clone, Copy, Debug, PartialEq, Eq)]
+pub enum Instr {
+    /// LUI and AUIPC. The immediate's low 12 bits are zero.
+    Upper { op: Op, rd: u8, imm: u64 },
+    /// JAL. The immediate is a multiple of 2.
+    Jal { rd: u8, imm: u64 },
+    /// JALR.
+    Jalr { rd: u8, rs1: u8, imm: u64 },
+    /// The six branches. The immediate is a multiple of 2.
+    Branch { op: Op, rs1: u8, rs2: u8, imm: u64 },
+    /// Arithmetic with an immediate, shifts aside.
+    Imm { op: Op, rd: u8, rs1: u8, imm: u64 },
+    /// Shifts by a constant, below 64, or below 32 in the W forms.
+    Shift { op: Op, rd: u8, rs1: u8, amount: u8 },
+    /// Arithmetic on two registers.
+    Reg { op: Op, rd: u8, rs1: u8, rs2: u8 },
+    /// FENCE, whose other bits are kept and mean nothing here.
+    Fence { rd: u8, rs1: u8, imm: u64 },
+    /// ECALL.
+    Ecall,
+    /// EBREAK.
+    Ebreak,
+}

@@ -1,0 +1,12 @@
+//! From 32-bit words to RV64I instructions, loads and stores aside. The listing of the RISC-V ISA manual
+//! stands in `specs/Table.antt`, and `decode` is proved to follow it, word for word.
+#![tactic(auto)]
+
+mod decoder;
+mod fields;
+mod instr;
+#[cfg(test)]
+mod tests;
+
+pub use decoder::decode;
+pub use instr::{Instr, Op};

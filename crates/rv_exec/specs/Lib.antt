@@ -1,0 +1,4 @@
+pub use Rattle.rv_decode.specs.Valid
+pub mod Registers
+pub mod Arithmetic
+pub mod Effect

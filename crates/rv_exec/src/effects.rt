@@ -1,0 +1,93 @@
+ghost use Rattle.std.specs.Prelude.{◌≡◌, ◌<◌};
+ghost use Rattle.rv_decode.specs.Valid.{IsValid};
+ghost use Rattle.rv_exec.specs.Arithmetic.{even_address};
+ghost use Rattle.rv_exec.specs.Effect.{effect_of, jump, advance, HasRegister};
+
+use crate::meaning::Meaning;
+use crate::registers::Regs;
+use crate::values::{
+    takes, value_of_immediate, value_of_registers, value_of_shift, value_of_upper,
+};
+use rv_decode::Instr;
+use sim_base::Cause;
+
+/// What an instruction at `pc` does, by what the registers hold. It changes nothing itself. The
+/// rules are those of the RISC-V ISA manual; arithmetic is modulo 2^64, addresses included.
+///
+/// A jump, or a branch that is taken, to an address that isn't a multiple of 4 traps; a branch
+/// that isn't taken goes on, whatever its target. A FENCE does nothing.
+pub fn effect(instr: &Instr, regs: &Regs, pc: u64) -> Meaning
+    requires { IsValid instr.now }
+    ensures meaning { result ≡ effect_of instr.now regs.now pc }
+    ensures register { HasRegister result }
+{
+    match *instr {
+        Instr::Upper { op, rd, imm } => go_on(rd, value_of_upper(op, imm, pc), pc),
+        Instr::Jal { rd, imm } => jump_to(rd, pc.wrapping_add(4), pc.wrapping_add(imm)),
+        Instr::Jalr { rd, rs1, imm } => {
+            let target = without_bit_0(regs.get(rs1).wrapping_add(imm));
+            jump_to(rd, pc.wrapping_add(4), target)
+        }
+        Instr::Branch { op, rs1, rs2, imm } => {
+            if takes(op, regs.get(rs1), regs.get(rs2)) {
+                jump_to(0, 0, pc.wrapping_add(imm))
+            } else {
+                go_on(0, 0, pc)
+            }
+        }
+        Instr::Imm { op, rd, rs1, imm } => {
+            go_on(rd, value_of_immediate(op, regs.get(rs1), imm), pc)
+        }
+        Instr::Shift {
+            op,
+            rd,
+            rs1,
+            amount,
+        } => { go_on(rd, value_of_shift(op, regs.get(rs1), amount), pc) }
+        Instr::Reg { op, rd, rs1, rs2 } => {
+            go_on(rd, value_of_registers(op, regs.get(rs1), regs.get(rs2)), pc)
+        }
+        Instr::Fence { .. } => go_on(0, 0, pc),
+        Instr::Ecall => Meaning::Call,
+        Instr::Ebreak => Meaning::Trap {
+            cause: Cause::Breakpoint,
+        },
+    }
+}
+
+/// A value for `rd`, below 32, and the next instruction.
+fn go_on(rd: u8, value: u64, pc: u64) -> Meaning
+    requires { rd < 32 }
+    ensures meaning { result ≡ advance rd value pc }
+    ensures register { HasRegister result }
+{
+    let pc = pc.wrapping_add(4);
+    Meaning::Next { rd, value, pc }
+}
+
+/// A value for `rd`, below 32, and the instruction at `target`; a trap where that isn't a multiple
+/// of 4.
+fn jump_to(rd: u8, value: u64, target: u64) -> Meaning
+    requires { rd < 32 }
+    ensures meaning { result ≡ jump rd value target }
+    ensures register { HasRegister result }
+{
+    if target % 4 == 0 {
+        Meaning::Next {
+            rd,
+            value,
+            pc: target,
+        }
+    } else {
+        Meaning::Trap {
+            cause: Cause::InstrMisaligned,
+        }
+    }
+}
+
+/// An address with its bit 0 cleared.
+fn without_bit_0(address: u64) -> u64
+    ensures { result ≡ even_address address }
+{
+    address & !1
+}

@@ -1,0 +1,134 @@
+//! The numbers that instructions write, and the branches' tests.
+ghost use Rattle.std.specs.Prelude.{◌≡◌, ◌<◌, IsTrue};
+ghost use Rattle.rv_decode.specs.Field.{extended};
+ghost use Rattle.rv_decode.specs.Valid.{is_upper, is_branch, is_immediate, is_register, IsAmount};
+ghost use Rattle.rv_exec.specs.Arithmetic.{signed_lt, low_word, arithmetic_shift, word_arithmetic_shift};
+ghost use Rattle.rv_exec.specs.Effect.{upper_value, is_taken, immediate_value, shift_value, register_value};
+
+use rv_decode::Op;
+
+/// What LUI and AUIPC write.
+pub(crate) fn value_of_upper(op: Op, imm: u64, pc: u64) -> u64
+    requires { IsTrue (is_upper op) }
+    ensures { result ≡ upper_value op imm pc }
+{
+    match op {
+        Op::Lui => imm,
+        Op::Auipc => pc.wrapping_add(imm),
+        _ => unreachable!(),
+    }
+}
+
+/// Whether a branch on `a` and `b` is taken.
+pub(crate) fn takes(op: Op, a: u64, b: u64) -> bool
+    requires { IsTrue (is_branch op) }
+    ensures { result ≡ is_taken op a b }
+{
+    match op {
+        Op::Beq => a == b,
+        Op::Bne => a != b,
+        Op::Blt => is_signed_less(a, b),
+        Op::Bge => !is_signed_less(a, b),
+        Op::Bltu => a < b,
+        Op::Bgeu => a >= b,
+        _ => unreachable!(),
+    }
+}
+
+/// What arithmetic on `a` and an immediate writes.
+pub(crate) fn value_of_immediate(op: Op, a: u64, imm: u64) -> u64
+    requires { IsTrue (is_immediate op) }
+    ensures { result ≡ immediate_value op a imm }
+{
+    match op {
+        Op::Addi => a.wrapping_add(imm),
+        Op::Slti => u64::from(is_signed_less(a, imm)),
+        Op::Sltiu => u64::from(a < imm),
+        Op::Xori => a ^ imm,
+        Op::Ori => a | imm,
+        Op::Andi => a & imm,
+        Op::Addiw => sign_extended(word(a).wrapping_add(word(imm))),
+        _ => unreachable!(),
+    }
+}
+
+/// What a shift of `a` by a constant writes.
+pub(crate) fn value_of_shift(op: Op, a: u64, amount: u8) -> u64
+    requires { IsAmount op amount }
+    ensures { result ≡ shift_value op a amount }
+{
+    match op {
+        Op::Slli => a << amount,
+        Op::Srli => a >> amount,
+        Op::Srai => signed_shift(a, amount),
+        Op::Slliw => sign_extended(word(a) << amount),
+        Op::Srliw => sign_extended(word(a) >> amount),
+        Op::Sraiw => signed_word_shift(a, amount),
+        _ => unreachable!(),
+    }
+}
+
+/// What arithmetic on two registers' numbers writes. A shift's amount is the low 6 bits of `b`, or
+/// 5 in a W form.
+pub(crate) fn value_of_registers(op: Op, a: u64, b: u64) -> u64
+    requires { IsTrue (is_register op) }
+    ensures { result ≡ register_value op a b }
+{
+    let amount = (b % 64) as u8;
+    let word_amount = (b % 32) as u8;
+    match op {
+        Op::Add => a.wrapping_add(b),
+        Op::Sub => a.wrapping_sub(b),
+        Op::Sll => a << amount,
+        Op::Srl => a >> amount,
+        Op::Sra => signed_shift(a, amount),
+        Op::Slt => u64::from(is_signed_less(a, b)),
+        Op::Sltu => u64::from(a < b),
+        Op::Xor => a ^ b,
+        Op::Or => a | b,
+        Op::And => a & b,
+        Op::Addw => sign_extended(word(a).wrapping_add(word(b))),
+        Op::Subw => sign_extended(word(a).wrapping_sub(word(b))),
+        Op::Sllw => sign_extended(word(a) << word_amount),
+        Op::Srlw => sign_extended(word(a) >> word_amount),
+        Op::Sraw => signed_word_shift(a, word_amount),
+        _ => unreachable!(),
+    }
+}
+
+/// Whether `a` is less than `b` in two's complement.
+fn is_signed_less(a: u64, b: u64) -> bool
+    ensures { result ≡ signed_lt a b }
+{
+    a.cast_signed() < b.cast_signed()
+}
+
+/// A shift to the right that copies the sign.
+fn signed_shift(a: u64, amount: u8) -> u64
+    requires { amount < 64 }
+    ensures { result ≡ arithmetic_shift a amount }
+{
+    (a.cast_signed() >> amount).cast_unsigned()
+}
+
+/// A shift of the low word to the right that copies the word's sign.
+fn signed_word_shift(a: u64, amount: u8) -> u64
+    requires { amount < 32 }
+    ensures { result ≡ word_arithmetic_shift a amount }
+{
+    sign_extended((word(a).cast_signed() >> amount).cast_unsigned())
+}
+
+/// The low word of a register's number.
+fn word(n: u64) -> u32
+    ensures { result ≡ low_word n }
+{
+    (n & 0xffff_ffff) as u32
+}
+
+/// A word as 64 bits with the same signed value.
+fn sign_extended(n: u32) -> u64
+    ensures { result ≡ extended 32 n }
+{
+    i64::from(n.cast_signed()).cast_unsigned()
+}

@@ -1,0 +1,58 @@
+-- What a file decides is what the input decides.
+use Rattle.std.proofs.Common.{◌≡◌, ℕ, ◌<◌, List, length, true, refl, sym, ap, ◌∙◌, arith}
+use Rattle.std.specs.Prelude.{Option, Some, None, Result, Ok, Err, IfOk}
+use Rattle.std.proofs.lemmas.Bool.Decides.{nat_tests}
+use Rattle.sim_base.specs.declared.ends.End.{End}
+use Rattle.sim_base.specs.declared.ends.End.TheVariants.{Exit, Trap, Deadlock, Budget}
+use Rattle.sim_outside.specs.Told.{Tells, Exceeds}
+use Rattle.elf_image.specs.Image.{Program, image_of, is_too_long}
+use Rattle.elf_image.specs.declared.refusal.ImageFault.{ImageFault}
+use Rattle.elf_image.specs.declared.refusal.ImageFault.TheVariants.{Form}
+use Rattle.flat_machine.specs.Run.{after}
+use Rattle.sim_top.specs.declared.outcomes.Decision.{Decision}
+use Rattle.sim_base.specs.declared.memory.NoMemory.{NoMemory}
+use Rattle.sim_top.specs.declared.outcomes.Outcome.TheVariants.{BadImage}
+use Rattle.sim_top.specs.Words.{image_name}
+use Rattle.sim_top.specs.Answer.{Input, IsImageFile, Decides, decided_by_file, decided_by_image, decided_by_end, most_actions, refused}
+
+module _ (i : Input) (name file : List ℕ) (is : IsImageFile i name file) where
+  by_end : (output : List ℕ) (ended : Option End) → decided_by_file file ≡ decided_by_end output ended
+      → Decides i (decided_by_end output ended).outcome (decided_by_end output ended).text
+  by_end output None e = (name, file, is, e)
+  by_end output (Some (Exit code)) e = (name, file, is, e)
+  by_end output (Some (Trap thread cause pc)) e = (name, file, is, e)
+  by_end output (Some Deadlock) e = (name, file, is, e)
+  by_end output (Some Budget) e = (name, file, is, e)
+
+  by_image : (r : Result Program ImageFault) → decided_by_file file ≡ decided_by_image r → Decides i (decided_by_image r).outcome (decided_by_image r).text
+  by_image (Ok program) e = by_end (after (record { image = program }) most_actions).output (after (record { image = program }) most_actions).ended e
+  by_image (Err fault) e = (name, file, is, e)
+
+  pub decides_file : (d : Decision) → d ≡ decided_by_file file → Decides i d.outcome d.text
+  decides_file d e = rw e (by_image (image_of file) refl)
+
+-- a file over the limit is refused
+pub too_long : (file : List ℕ) → 16777216 < length file → image_of file ≡ Err Form
+too_long file h = let t : is_too_long file ≡ true = grind (arith, nat_tests) in rw t refl
+
+-- a file of which a reading found more than the limit is such a file
+pub long_file : (held : Option (List ℕ)) (bytes : List ℕ) → 16777216 < length bytes → Exceeds held bytes 16777216
+    → (file : List ℕ) × Tells held file × (16777216 < length file)
+long_file None bytes h e = (bytes, tt, h)
+long_file (Some contents) bytes h e = (contents, refl, e.1)
+
+-- the answer of a call that decides by the file is the answer by the input
+pub decided : (i : Input) (name file : List ℕ) (r : Result Decision NoMemory) → IsImageFile i name file
+    → IfOk r (λ d. d ≡ decided_by_file file) → IfOk r (λ d. Decides i d.outcome d.text)
+decided i name file (Ok d) is h = decides_file i name file is d h
+decided i name file (Err e) is h = tt
+
+-- and so is a refusal of a file that is too long, whatever more is in it than was read
+pub decided_too_long : (i : Input) (name bytes : List ℕ) (r : Result Decision NoMemory) → image_name i.words ≡ Some name
+    → 16777216 < length bytes → Exceeds (i.holds name) bytes 16777216
+    → IfOk r (λ d. d ≡ refused (BadImage Form)) → IfOk r (λ d. Decides i d.outcome d.text)
+decided_too_long i name bytes (Err e) named long exceeds h = tt
+decided_too_long i name bytes (Ok d) named long exceeds h =
+    let file = long_file (i.holds name) bytes long exceeds in
+    let is : IsImageFile i name file.0 = record { named = named; told = file.1 } in
+    decides_file i name file.0 is d (h ∙ ap decided_by_image (sym (too_long file.0 file.2)))

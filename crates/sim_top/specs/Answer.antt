@@ -1,0 +1,92 @@
+-- What a call of the simulator answers, by what it is given: the words, the file that they name, and a
+-- stream to print on.
+use Rattle.std.specs.Prelude.{◌≡◌, ℕ, List, [], take, Option, Some, None, Result, Ok, Err}
+use Rattle.sim_base.specs.declared.ends.End.{End}
+use Rattle.sim_base.specs.declared.ends.End.TheVariants.{Exit}
+use Rattle.sim_outside.specs.Fault.{Rose}
+use Rattle.sim_outside.specs.Told.{Tells, Took}
+use Rattle.elf_image.specs.Image.{Program, image_of}
+use Rattle.elf_image.specs.declared.refusal.ImageFault.{ImageFault}
+use Rattle.flat_machine.specs.State.{State}
+use Rattle.flat_machine.specs.Run.{after}
+use Rattle.sim_top.specs.declared.outcomes.Outcome.{Outcome}
+use Rattle.sim_top.specs.declared.outcomes.Outcome.TheVariants.{Done, Usage, BadImage, NotBuilt, ReadFault, WriteFault, NoMemory}
+use Rattle.sim_top.specs.declared.outcomes.Decision.{Decision}
+use Rattle.sim_top.specs.Words.{image_name}
+use Rattle.sim_top.specs.Text.{run_text, fault_text}
+
+-- how many actions of the flat machine a program is given
+abbrev pub most_actions : ℕ
+most_actions = 1000000
+
+-- an outcome with its fault line
+abbrev pub refused : Outcome → Decision
+refused outcome = record { outcome = outcome; text = fault_text outcome }
+
+-- what the end of a run decides: an exit is reported with the output, and nothing else is built yet
+abbrev pub decided_by_end : List ℕ → Option End → Decision
+decided_by_end output (Some (Exit code)) = record { outcome = Done code; text = run_text output code }
+decided_by_end output _ = refused NotBuilt
+
+abbrev pub decided_by_state : State → Decision
+decided_by_state s = decided_by_end s.output s.ended
+
+-- what an image decides: the flat machine's one legal action is made again and again
+abbrev pub decided_by_image : Result Program ImageFault → Decision
+decided_by_image (Ok program) = decided_by_state (after (record { image = program }) most_actions)
+decided_by_image (Err fault) = refused (BadImage fault)
+
+-- what the bytes of a file decide
+abbrev pub decided_by_file : List ℕ → Decision
+decided_by_file bytes = decided_by_image (image_of bytes)
+
+-- the words, and the files by their names: the faults of reading before the call and now, and what the
+-- names hold where this is told
+pub record Input : Type 0 where
+  pub words : List (List ℕ)
+  pub faults_before : List ℕ → ℕ
+  pub faults_now : List ℕ → ℕ
+  pub holds : List ℕ → Option (List ℕ)
+
+-- the stream: its faults before the call and now, and the bytes it took where this is told
+pub record Output : Type 0 where
+  pub faults_before : ℕ
+  pub faults_now : ℕ
+  pub taken_before : Option (List ℕ)
+  pub taken_now : Option (List ℕ)
+
+-- the words name this file, and where what it holds is told, it holds these bytes
+pub record IsImageFile (i : Input) (name file : List ℕ) : Type 0 where
+  pub named : image_name i.words ≡ Some name
+  pub told : Tells (i.holds name) file
+
+-- the words name this file, and reading it had one more fault
+pub record HadReadFault (i : Input) (name : List ℕ) : Type 0 where
+  pub named : image_name i.words ≡ Some name
+  pub rose : Rose (i.faults_before name) (i.faults_now name)
+
+-- the outcome and the text that the input decides, in order: the words, the file's reading, the image, the run
+abbrev pub Decides : Input → Outcome → List ℕ → Type 0
+Decides i Usage text = (image_name i.words ≡ None) × (text ≡ fault_text Usage)
+Decides i ReadFault text = (name : List ℕ) × HadReadFault i name × (text ≡ fault_text ReadFault)
+Decides i WriteFault text = ⊥
+Decides i NoMemory text = ⊥
+Decides i outcome text =
+    (name : List ℕ) × (file : List ℕ) × IsImageFile i name file × (decided_by_file file ≡ record { outcome = outcome; text = text })
+
+-- the input decides some outcome and text, and the stream took the front of that text and had one more fault
+pub record TakesFront (i : Input) (o : Output) (outcome : Outcome) (text : List ℕ) (len : ℕ) : Type 0 where
+  pub decides : Decides i outcome text
+  pub took : Took o.taken_before o.taken_now (take len text)
+  pub rose : Rose o.faults_before o.faults_now
+
+-- the input decides this text, and the stream took all of it
+pub record TakesAll (i : Input) (o : Output) (outcome : Outcome) (text : List ℕ) : Type 0 where
+  pub decides : Decides i outcome text
+  pub took : Took o.taken_before o.taken_now text
+
+-- what the call answers. Want of memory is free, and then nothing was put.
+abbrev pub Answers : Input → Output → Outcome → Type 0
+Answers i o NoMemory = Took o.taken_before o.taken_now []
+Answers i o WriteFault = (outcome : Outcome) × (text : List ℕ) × (len : ℕ) × TakesFront i o outcome text len
+Answers i o outcome = (text : List ℕ) × TakesAll i o outcome text

@@ -1,0 +1,10 @@
+pub mod Words
+pub mod Text
+pub mod PutAll
+pub mod Answer
+pub use Rattle.flat_machine.specs.Run
+pub use Rattle.flat_machine.specs.State
+pub use Rattle.elf_image.specs.Image
+pub use Rattle.elf_image.specs.Layout
+pub use Rattle.sim_outside.specs.Fault
+pub use Rattle.sim_outside.specs.Told

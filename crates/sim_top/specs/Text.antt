@@ -1,0 +1,46 @@
+-- What is printed. This simulator's own.
+use Rattle.std.specs.Prelude.{ℕ, ◌-◌, ◌==◌, ◌&&◌, Bool, not, List, [], ◌∷◌, ◌++◌, length, slice_index, if◌then◌else◌, codes, decimal}
+use Rattle.elf_image.specs.declared.refusal.ImageFault.{ImageFault}
+use Rattle.elf_image.specs.declared.refusal.ImageFault.TheVariants.{Form}
+use Rattle.sim_top.specs.declared.outcomes.Outcome.{Outcome}
+use Rattle.sim_top.specs.declared.outcomes.Outcome.TheVariants.{Done, Usage, BadImage, NotBuilt, ReadFault, WriteFault, NoMemory}
+
+-- a line ends in a newline (10)
+abbrev pub line : List ℕ → List ℕ
+line bytes = bytes ++ 10 ∷ []
+
+-- whether an output ends amid a line: it isn't empty, and its last byte is no newline
+abbrev pub ends_amid_line : List ℕ → Bool
+ends_amid_line output = not (length output == 0) && not (slice_index output (length output - 1) == 10)
+
+-- the output, with the newline that its last line lacks
+abbrev pub whole_lines : List ℕ → List ℕ
+whole_lines output = if ends_amid_line output then line output else output
+
+-- the text of a run: the program's output, and then how it ended
+abbrev pub run_text : List ℕ → ℕ → List ℕ
+run_text output code = whole_lines output ++ line (codes "== tilesim ==") ++ line (codes "end: exit " ++ decimal code)
+
+-- the name of a fault
+abbrev pub fault_name : ImageFault → List ℕ
+fault_name Form = codes "Form"
+
+-- the line that says why there was no run
+abbrev pub fault_text : Outcome → List ℕ
+fault_text Usage = line (codes "tilesim: usage")
+fault_text (BadImage fault) = line (codes "tilesim: bad image " ++ fault_name fault)
+fault_text NotBuilt = line (codes "tilesim: not built")
+fault_text ReadFault = line (codes "tilesim: read fault")
+fault_text (Done code) = []
+fault_text WriteFault = []
+fault_text NoMemory = []
+
+-- the exit status of the process
+abbrev pub status_of : Outcome → ℕ
+status_of (Done code) = 0
+status_of Usage = 4
+status_of (BadImage fault) = 6
+status_of ReadFault = 8
+status_of WriteFault = 9
+status_of NoMemory = 10
+status_of NotBuilt = 12

@@ -1,0 +1,16 @@
+//! The top call: from the words of the command line to the text that is printed and the status of
+//! the process.
+#![tactic(auto)]
+
+mod decision;
+mod outcomes;
+mod putting;
+mod report;
+#[cfg(test)]
+mod tests;
+mod top;
+mod words;
+
+pub use outcomes::{Decision, Finish, Outcome};
+pub use report::fault_line;
+pub use top::execute_alone;

@@ -1,0 +1,37 @@
+use elf_image::ImageFault;
+use sim_base::Bytes;
+
+/// How a call of the simulator ended.
+#[derive(Clone, Copy, Debug, PartialEq, Eq)]
+pub enum Outcome {
+    /// The program exited with this code.
+    Done { code: u8 },
+    /// The words have no meaning.
+    Usage,
+    /// The image is refused.
+    BadImage { fault: ImageFault },
+    /// The program trapped or took too many actions, which isn't reported yet.
+    NotBuilt,
+    /// The image couldn't be read.
+    ReadFault,
+    /// The text couldn't be put.
+    WriteFault,
+    /// Memory ran out.
+    NoMemory,
+}
+
+/// What a call of the simulator answers.
+#[derive(Clone, Copy, Debug, PartialEq, Eq)]
+pub struct Finish {
+    /// The exit status of the process.
+    pub status: u8,
+    /// How it ended.
+    pub outcome: Outcome,
+}
+
+/// An outcome, and the text that is to be put.
+#[derive(Drop)]
+pub struct Decision {
+    pub outcome: Outcome,
+    pub text: Bytes,
+}

@@ -1,0 +1,306 @@
+//! Whole runs, from the words and the file to the text and the status. Expected values are worked out by
+//! hand from the RISC-V ISA manual and the rules of the calls.
+
+use crate::{Finish, Outcome, execute_alone};
+use elf_image::{ImageFault, World, read_image};
+use flat_machine::{ActFault, Flat, run};
+use sim_base::{Action, End, Text};
+use sim_outside::{MemFiles, MemSink};
+use std::alloc::{AllocError, Global};
+use std::test::Fail;
+
+/// The file header of an ELF64 executable for RISC-V with entry 0x10120 and one program header after it, and
+/// that header up to its address: a segment from the file's start to 0x10000, read and executed.
+const HEADERS: [u8; 96] = [
+    0x7F, 0x45, 0x4C, 0x46, 2, 1, 1, 0, 0, 0, 0, 0, 0, 0, 0, 0, // e_ident
+    2, 0, 0xF3, 0, 1, 0, 0, 0, // e_type, e_machine, e_version
+    0x20, 0x01, 0x01, 0, 0, 0, 0, 0, // e_entry
+    64, 0, 0, 0, 0, 0, 0, 0, // e_phoff
+    0, 0, 0, 0, 0, 0, 0, 0, // e_shoff
+    0, 0, 0, 0, 64, 0, 56, 0, 1, 0, 0, 0, 0, 0, 0, 0, // e_flags to e_shstrndx
+    1, 0, 0, 0, 5, 0, 0, 0, // p_type, p_flags
+    0, 0, 0, 0, 0, 0, 0, 0, // p_offset
+    0, 0, 0x01, 0, 0, 0, 0, 0, // p_vaddr
+    0, 0, 0x01, 0, 0, 0, 0, 0, // p_paddr
+];
+
+/// Where the code begins in the file.
+const CODE: usize = 0x120;
+
+/// addi a7,x0,93; addi a0,x0,0; ecall
+const EXIT: [u32; 3] = [0x05D00893, 0x00000513, 0x00000073];
+
+/// An image of `size` bytes with these words at the entry, and a text at 0x10180 where there is room.
+fn image(alloc: Global, code: &[u32], text: &[u8]) -> Result<Vec<u8>, AllocError> {
+    let mut file = Vec::new(alloc);
+    file.extend_from_slice(&HEADERS)?;
+    let size: u64 = if text.is_empty() { 0x164 } else { 0x190 };
+    file.extend_from_slice(&size.to_le_bytes())?;
+    file.extend_from_slice(&size.to_le_bytes())?;
+    file.resize(CODE, 0)?;
+    for word in code {
+        file.extend_from_slice(&word.to_le_bytes())?;
+    }
+    if !text.is_empty() {
+        file.resize(0x180, 0)?;
+        file.extend_from_slice(text)?;
+    }
+    file.resize(if text.is_empty() { 0x164 } else { 0x190 }, 0)?;
+    Ok(file)
+}
+
+/// What is answered and put for a file under the name `program`, by a stream that takes `most` bytes at a
+/// time and fails at the calls in `fail`.
+fn answer(
+    alloc: Global,
+    words: &[&str],
+    file: Vec<u8>,
+    most: usize,
+    fail: Vec<u64>,
+) -> Result<(Finish, Vec<u8>), Fail> {
+    let mut texts = Vec::new(alloc);
+    for word in words {
+        texts.push(Text::new(alloc, *word)?)?;
+    }
+    let mut files = Vec::new(alloc);
+    files.push((String::from_str(alloc, "program")?, file))?;
+    let mut files = MemFiles {
+        files,
+        fail: Vec::new(alloc),
+        calls: 0,
+        read_faults: 0,
+    };
+    let mut out = MemSink::new(alloc, 4_000_000, most, fail)?;
+    let finish = execute_alone(alloc, texts.as_slice(), &mut files, &mut out);
+    let taken = out.taken.as_slice().to_vec(alloc)?;
+    Ok((finish, taken))
+}
+
+/// The same for `run program` over a stream that takes all.
+fn run_alone(alloc: Global, file: Vec<u8>) -> Result<(Finish, Vec<u8>), Fail> {
+    answer(
+        alloc,
+        &["run", "program"],
+        file,
+        usize::MAX,
+        Vec::new(alloc),
+    )
+}
+
+#[test]
+fn runs_and_refuses(rt: HostRuntime) -> Result<(), Fail> {
+    let hello: [u32; 9] = [
+        0x04000893, 0x00100513, 0x000105B7, 0x18058593, 0x00600613, 0x00000073, 0x05D00893,
+        0x00000513, 0x00000073,
+    ];
+    let done = Outcome::Done { code: 0 };
+    let form = Outcome::BadImage {
+        fault: ImageFault::Form,
+    };
+    let alloc = rt.alloc();
+    let mut short = image(alloc, &EXIT, b"")?;
+    short.truncate(119);
+    let rows: [(Vec<u8>, u8, Outcome, &[u8]); 5] = [
+        (
+            image(alloc, &EXIT, b"")?,
+            0,
+            done,
+            b"== tilesim ==\nend: exit 0\n",
+        ),
+        (
+            image(alloc, &hello, b"hello\n")?,
+            0,
+            done,
+            b"hello\n== tilesim ==\nend: exit 0\n",
+        ),
+        (
+            image(alloc, &[0x0000006F], b"")?,
+            12,
+            Outcome::NotBuilt,
+            b"tilesim: not built\n",
+        ),
+        (
+            image(alloc, &[0x00000000], b"")?,
+            12,
+            Outcome::NotBuilt,
+            b"tilesim: not built\n",
+        ),
+        (short, 6, form, b"tilesim: bad image Form\n"),
+    ];
+    for (file, status, outcome, text) in rows {
+        let (finish, taken) = run_alone(alloc, file)?;
+        assert_eq!(rt; finish.status, status, "{outcome:?}");
+        assert_eq!(rt; finish.outcome, outcome);
+        assert_eq!(rt; taken.as_slice(), text, "{outcome:?}");
+    }
+    Ok(())
+}
+
+#[test]
+fn calls_answer_by_their_table(rt: HostRuntime) -> Result<(), Fail> {
+    let alloc = rt.alloc();
+    // Each program ends by exit_group with the low byte of the call's answer.
+    let rows: [(&str, &[u32], u8, usize); 9] = [
+        (
+            "descriptor 3: -9",
+            &[0x04000893, 0x00300513, 0x00000073, 0x05E00893, 0x00000073],
+            247,
+            0,
+        ),
+        (
+            "no bytes: 0",
+            &[
+                0x04000893, 0x00100513, 0x00000613, 0x00000073, 0x05E00893, 0x00000073,
+            ],
+            0,
+            0,
+        ),
+        (
+            "nothing mapped: -14",
+            &[
+                0x04000893, 0x00100513, 0x200005B7, 0x00100613, 0x00000073, 0x05E00893, 0x00000073,
+            ],
+            242,
+            0,
+        ),
+        (
+            "the last byte past the segment: -14",
+            &[
+                0x04000893, 0x00200513, 0x000105B7, 0x15D58593, 0x00800613, 0x00000073, 0x05E00893,
+                0x00000073,
+            ],
+            242,
+            0,
+        ),
+        (
+            "5000 bytes of the heap: 4096, shifted right by 8",
+            &[
+                0x04000893, 0x00100513, 0x000115B7, 0x00001637, 0x38860613, 0x00000073, 0x00855513,
+                0x05E00893, 0x00000073,
+            ],
+            16,
+            4097,
+        ),
+        (
+            "sched_yield: 0",
+            &[0x07C00893, 0x00700513, 0x00000073, 0x05E00893, 0x00000073],
+            0,
+            0,
+        ),
+        (
+            "gettid: 0",
+            &[0x0B200893, 0x00700513, 0x00000073, 0x05E00893, 0x00000073],
+            0,
+            0,
+        ),
+        (
+            "no such call: -38",
+            &[0x3E800893, 0x00000073, 0x05E00893, 0x00000073],
+            218,
+            0,
+        ),
+        (
+            "exit with 0x1FF",
+            &[0x05D00893, 0x1FF00513, 0x00000073],
+            255,
+            0,
+        ),
+    ];
+    for (name, code, status, put) in rows {
+        let (finish, taken) = run_alone(alloc, image(alloc, code, b"")?)?;
+        assert_eq!(rt; finish.outcome, Outcome::Done { code: status }, "{name}");
+        let report = format!(in alloc; "== tilesim ==\nend: exit {status}\n")?;
+        assert_eq!(rt; taken.len(), put + report.len(), "{name}");
+        assert!(rt; taken.as_slice().ends_with(report.as_bytes()), "{name}");
+    }
+    Ok(())
+}
+
+#[test]
+fn words_and_faults_have_their_answers(rt: HostRuntime) -> Result<(), Fail> {
+    let alloc = rt.alloc();
+    let usage = (4, Outcome::Usage, b"tilesim: usage\n".as_slice());
+    let rows: [(&[&str], (u8, Outcome, &[u8])); 8] = [
+        (&[], usage),
+        (&["run"], usage),
+        (&["run", ""], usage),
+        (&["run", "-h"], usage),
+        (&["run", "program", "other"], usage),
+        (&["Run", "program"], usage),
+        (&["program", "run"], usage),
+        (
+            &["run", "absent"],
+            (8, Outcome::ReadFault, b"tilesim: read fault\n"),
+        ),
+    ];
+    for (words, (status, outcome, text)) in rows {
+        let file = image(alloc, &EXIT, b"")?;
+        let (finish, taken) = answer(alloc, words, file, usize::MAX, Vec::new(alloc))?;
+        assert_eq!(rt; finish, Finish { status, outcome }, "{words:?}");
+        assert_eq!(rt; taken.as_slice(), text, "{words:?}");
+    }
+    Ok(())
+}
+
+#[test]
+fn a_failing_stream_takes_a_front_of_the_text(rt: HostRuntime) -> Result<(), Fail> {
+    let alloc = rt.alloc();
+    let rows: [(usize, u64, &[u8]); 2] = [(usize::MAX, 0, b""), (7, 1, b"== tile")];
+    for (most, fails, front) in rows {
+        let mut fail = Vec::new(alloc);
+        fail.push(fails)?;
+        let file = image(alloc, &EXIT, b"")?;
+        let (finish, taken) = answer(alloc, &["run", "program"], file, most, fail)?;
+        assert_eq!(rt; finish.status, 9, "at call {fails}");
+        assert_eq!(rt; finish.outcome, Outcome::WriteFault, "at call {fails}");
+        assert_eq!(rt; taken.as_slice(), front, "at call {fails}");
+    }
+    Ok(())
+}
+
+#[test]
+fn the_flat_machine_acts_and_refuses(rt: HostRuntime) -> Result<(), Fail> {
+    let alloc = rt.alloc();
+    let file = image(alloc, &EXIT, b"")?;
+    let world = World::new(read_image(alloc, file.as_slice())?);
+    let mut flat = Flat::start(alloc, &world)?;
+    let exec = Action::Exec { thread: 0 };
+    let serve = Action::Serve { thread: 0 };
+    let rows = [
+        (serve, Err(ActFault::NotLegal)),
+        (exec, Ok(())),
+        (exec, Ok(())),
+        (exec, Ok(())),
+        (exec, Err(ActFault::NotLegal)),
+        (Action::Load { thread: 0 }, Err(ActFault::NotLegal)),
+        (Action::Return { thread: 0 }, Err(ActFault::NotLegal)),
+        (Action::Serve { thread: 1 }, Err(ActFault::NotLegal)),
+        (serve, Ok(())),
+        (serve, Err(ActFault::NotLegal)),
+    ];
+    for (action, wanted) in rows {
+        assert_eq!(rt; flat.act(alloc, &world, &action), wanted, "{action:?}");
+    }
+    assert_eq!(rt; flat.ended(), Some(End::Exit { code: 0 }));
+    assert_eq!(rt; flat.legal_action(), None);
+    assert_eq!(rt; flat.output(), b"".as_slice());
+    assert_eq!(rt; flat.byte(0x10120), 0x93);
+    assert_eq!(rt; flat.byte(0x20), 0);
+    Ok(())
+}
+
+#[test]
+fn a_full_output_takes_no_more(rt: HostRuntime) -> Result<(), Fail> {
+    // 256 writes of 4096 bytes of the heap, one of a single byte, and exit_group with its answer, -28.
+    let code: [u32; 14] = [
+        0x04000893, 0x000115B7, 0x10000413, 0x00001637, 0x00100513, 0x00000073, 0xFFF40413,
+        0x00040463, 0xFE0008E3, 0x00100513, 0x00100613, 0x00000073, 0x05E00893, 0x00000073,
+    ];
+    let alloc = rt.alloc();
+    let file = image(alloc, &code, b"")?;
+    let world = World::new(read_image(alloc, file.as_slice())?);
+    let flat = run(alloc, &world, 1_100_000)?;
+    assert_eq!(rt; flat.ended(), Some(End::Exit { code: 228 }));
+    assert_eq!(rt; flat.output().len(), 1_048_576);
+    Ok(())
+}
