@@ -3,3 +3,4 @@ pub mod StartLemmas
 pub mod MoveLemmas
 pub mod RunLemmas
 pub mod LegalLemmas
+pub mod WriteLemmas

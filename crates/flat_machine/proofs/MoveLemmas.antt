@@ -7,7 +7,8 @@ use Rattle.flat_machine.specs.declared.machine.ActFault.{ActFault}
 use Rattle.flat_machine.specs.declared.machine.ActFault.TheVariants.{NotLegal, NoMemory}
 use Rattle.flat_machine.specs.declared.threads.Thread.{Thread}
 use Rattle.flat_machine.specs.State.{State, with_thread}
-use Rattle.flat_machine.specs.Action.{with_move}
+use Rattle.elf_image.specs.Layout.{Setup}
+use Rattle.flat_machine.specs.Action.{Change, change_of, executed, with_change, with_instruction, with_move}
 use Rattle.flat_machine.specs.Gives.{Acts}
 
 -- to write what is there changes nothing
@@ -25,3 +26,11 @@ moved s number move old new (Err NoMemory) here h = ap (with_thread s number) h 
 -- where there is no such thread, no move is legal
 pub not_there : (s : State) (number : ℕ) (move : Thread → Option Thread) → slice_get s.threads number ≡ None → with_move s number move ≡ None
 not_there s number move e = rw e refl
+
+-- an instruction of one thread is an instruction of the machine
+pub instructed : (w : Setup) (s : State) (number : ℕ) (old : Thread) (new : Change) (r : Result (Unit {0}) ActFault)
+    → slice_get s.threads number ≡ Some old → Acts r (change_of s.memory old) new (executed w s.memory number old)
+    → Acts r s (with_change s number new) (with_instruction w s number)
+instructed w s number old new (Ok done) here h = rw here (rw h refl)
+instructed w s number old new (Err NotLegal) here h = (rw here (rw h.0 refl), ap (with_change s number) h.1 ∙ same_state s number old here)
+instructed w s number old new (Err NoMemory) here h = ap (with_change s number) h ∙ same_state s number old here

@@ -1,5 +1,5 @@
 -- Memory kept as contiguous regions, and the regions before the program runs.
-use Rattle.std.specs.Prelude.{ℕ, ◌+◌, ◌-◌, Bool, ◌&&◌, nat_le, nat_lt, List, [], ◌∷◌, ◌++◌, length, map, replicate, if◌then◌else◌, slice_index, Option, Some, None, unwrap_or}
+use Rattle.std.specs.Prelude.{ℕ, ◌+◌, ◌-◌, Bool, ◌&&◌, nat_le, nat_lt, List, [], ◌∷◌, ◌++◌, length, map, replicate, if◌then◌else◌, slice_index, slice_set, Option, Some, None, unwrap_or}
 use Rattle.std.specs.List.{flat_map}
 use Rattle.std.specs.Ordering.{nat_cmp}
 use Rattle.std.specs.FinMap.{FinMap, from_entries}
@@ -28,6 +28,13 @@ found (r ∷ rs) address =
 
 abbrev pub byte_of : List Region → ℕ → ℕ
 byte_of regions address = unwrap_or (found regions address) 0
+
+-- the regions with another byte at an address: the first region that has it is written
+abbrev pub with_byte_in : List Region → ℕ → ℕ → List Region
+with_byte_in [] address byte = []
+with_byte_in (r ∷ rs) address byte =
+    if has_address r.start (length r.bytes) address then record r { bytes = slice_set r.bytes (address - r.start) byte } ∷ rs
+    else r ∷ with_byte_in rs address byte
 
 -- a segment's bytes of the file, and zeros up to its size in memory
 abbrev pub segment_region : Segment → Region

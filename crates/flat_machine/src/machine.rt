@@ -65,7 +65,7 @@ impl Model for Flat {
 impl Flat {
     ghost use Rattle.flat_machine.specs.State.{start};
     ghost use Rattle.flat_machine.specs.Memory.{byte_at};
-    ghost use Rattle.flat_machine.specs.Action.{act, with_move, executed, loaded, returned, served_before};
+    ghost use Rattle.flat_machine.specs.Action.{act, with_move, with_instruction, loaded, returned, served_before};
     ghost use Rattle.flat_machine.specs.Gives.{Acts};
     ghost use Rattle.flat_machine.specs.Run.{legal_action};
 
@@ -99,13 +99,19 @@ impl Flat {
 
     /// A thread executes its next instruction.
     fn exec(&mut self, alloc: Global, world: &World, number: u32) -> Result<(), ActFault>
-        ensures { Acts result self.old self.new (with_move self.old number (executed world.now number)) }
+        ensures { Acts result self.old self.new (with_instruction world.now self.old number) }
     {
         let index = number as usize;
         if index >= self.threads.len() {
             return Err(ActFault::NotLegal);
         }
-        moves::execute(alloc, world, number, &mut self.threads[index])
+        moves::execute(
+            alloc,
+            world,
+            number,
+            &mut self.memory,
+            &mut self.threads[index],
+        )
     }
 
     /// A thread reads the next byte of its write call.

@@ -1,8 +1,11 @@
-ghost use Rattle.std.specs.Prelude.{◌≡◌, ◌≤◌, IfOk, All, length, map};
+ghost use Rattle.std.specs.Prelude.{◌≡◌, ◌≤◌, ◌<◌, ◌+◌, ◌-◌, ◌*◌, ◌^◌, if◌then◌else◌, IfOk, IfSome, IsTrue, All, length, map};
 ghost use Rattle.elf_image.specs.Image.{IsSegment, IsProgram};
-ghost use Rattle.flat_machine.specs.Memory.{byte_at, start_memory};
-ghost use Rattle.flat_machine.specs.Regions.{byte_of, segment_region, start_regions};
+ghost use Rattle.flat_machine.specs.Memory.{byte_at, with_byte, start_memory};
+ghost use Rattle.flat_machine.specs.Regions.{has_address, byte_of, with_byte_in, segment_region, start_regions};
+ghost use Rattle.rv_exec.specs.Access.{is_size};
+ghost use Rattle.sim_base.specs.LittleEndian.{loaded, with_bytes, stored};
 
+use byteorder::{ByteOrder, LittleEndian};
 use elf_image::{Segment, World};
 use sim_base::{Bytes, NoMemory};
 use std::alloc::Global;
@@ -13,6 +16,25 @@ use std::marker::Model;
 pub(crate) struct Region {
     pub(crate) start: u64,
     pub(crate) bytes: Bytes,
+}
+
+impl Region {
+    /// The place of an address among the region's bytes, if it has it.
+    fn place_of(&self, address: u64) -> Option<usize>
+        ensures value { result ≡ (if has_address self.now.start (length self.now.bytes) address
+            then Some (address - self.now.start) else None) }
+        ensures room { IfSome result (λ place. place < length self.now.bytes) }
+    {
+        if address < self.start {
+            return None;
+        }
+        let place = address - self.start;
+        if place < self.bytes.len() as u64 {
+            Some(place as usize)
+        } else {
+            None
+        }
+    }
 }
 
 /// The memory of the flat machine, which contracts see as a finite map from addresses to bytes.
@@ -51,6 +73,80 @@ impl Memory {
         ensures { result ≡ byte_at self.now address }
     {
         byte_in(self.regions.as_slice(), address)
+    }
+
+    /// Writes the byte at an address. Where nothing is mapped, nothing changes.
+    pub fn set(&mut self, address: u64, byte: u8)
+        ensures { self.new ≡ with_byte self.old address byte }
+    {
+        set_in(&mut self.regions, address, byte);
+    }
+
+    /// The number in the `size` bytes from an address on, little-endian. `size` is 1, 2, 4 or 8.
+    pub fn load(&self, address: u64, size: u8) -> u64
+        requires sized { IsTrue (is_size size) }
+        requires fits { address + size ≤ 2 ^ 64 }
+        ensures value { result ≡ loaded (byte_at self.now) address size }
+        ensures small { result < 2 ^ (8 * size) }
+    {
+        match size {
+            1 => u64::from(self.byte(address)),
+            2 => u64::from(LittleEndian::read_u16(&[self.byte(address), self.byte(address + 1)])),
+            4 => u64::from(self.word(address)),
+            8 => self.double_word(address),
+            _ => unreachable!(),
+        }
+    }
+
+    /// The number in the four bytes from an address on.
+    fn word(&self, address: u64) -> u32
+        requires { address + 4 ≤ 2 ^ 64 }
+        ensures { result ≡ loaded (byte_at self.now) address 4 }
+    {
+        LittleEndian::read_u32(&[
+            self.byte(address),
+            self.byte(address + 1),
+            self.byte(address + 2),
+            self.byte(address + 3),
+        ])
+    }
+
+    /// The number in the eight bytes from an address on.
+    fn double_word(&self, address: u64) -> u64
+        requires { address + 8 ≤ 2 ^ 64 }
+        ensures { result ≡ loaded (byte_at self.now) address 8 }
+    {
+        LittleEndian::read_u64(&[
+            self.byte(address),
+            self.byte(address + 1),
+            self.byte(address + 2),
+            self.byte(address + 3),
+            self.byte(address + 4),
+            self.byte(address + 5),
+            self.byte(address + 6),
+            self.byte(address + 7),
+        ])
+    }
+
+    /// Writes a number's low `size` bytes from an address on, little-endian. `size` is 1, 2, 4 or 8.
+    pub fn store(&mut self, address: u64, size: u8, value: u64)
+        requires sized { IsTrue (is_size size) }
+        requires fits { address + size ≤ 2 ^ 64 }
+        ensures { self.new ≡ stored with_byte self.old address size value }
+    {
+        let mut bytes = [0; 8];
+        LittleEndian::write_u64(&mut bytes, value);
+        self.set_all(address, &bytes[..size as usize]);
+    }
+
+    /// Writes bytes from an address on.
+    fn set_all(&mut self, address: u64, bytes: &[u8])
+        requires { address + length bytes.now ≤ 2 ^ 64 }
+        ensures { self.new ≡ with_bytes with_byte self.old address bytes.now }
+    {
+        for (k, byte) in bytes.iter().enumerate() {
+            self.set(address + k as u64, *byte);
+        }
     }
 }
 
@@ -105,12 +201,21 @@ fn byte_in(regions: &[Region], address: u64) -> u8
     ensures { result ≡ byte_of regions.now address }
 {
     for region in regions {
-        if address >= region.start {
-            let offset = address - region.start;
-            if offset < region.bytes.len() as u64 {
-                return region.bytes.at(offset as usize);
-            }
+        if let Some(place) = region.place_of(address) {
+            return region.bytes.at(place);
         }
     }
     0
+}
+
+/// Writes a byte of the first region that has the address. Where none has it, nothing changes.
+fn set_in(regions: &mut Vec<Region>, address: u64, byte: u8)
+    ensures { regions.new.items ≡ with_byte_in regions.old.items address byte }
+{
+    for region in regions.iter_mut() {
+        if let Some(place) = region.place_of(address) {
+            region.bytes.set(place, byte);
+            return;
+        }
+    }
 }

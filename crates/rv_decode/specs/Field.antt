@@ -43,6 +43,10 @@ amount_w word = field word 20 5
 abbrev pub immediate_i : ℕ → ℕ
 immediate_i word = extended 12 (field word 20 12)
 
+-- S: imm[11:5] are bits 31..25, imm[4:0] are bits 11..7
+abbrev pub immediate_s : ℕ → ℕ
+immediate_s word = extended 12 (field word 25 7 * 2 ^ 5 + field word 7 5)
+
 -- B: imm[12] is bit 31, imm[11] is bit 7, imm[10:5] are bits 30..25, imm[4:1] are bits 11..8
 abbrev pub immediate_b : ℕ → ℕ
 immediate_b word =

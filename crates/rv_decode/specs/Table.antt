@@ -2,10 +2,10 @@
 -- as it prints them. A word with no line has no instruction; to add an instruction is to add a line.
 use Rattle.std.specs.Prelude.{ℕ, ◌==◌, if◌then◌else◌, List, [], ◌∷◌, Option, Some, None, option_and_then}
 use Rattle.rv_decode.specs.declared.instr.Instr.{Instr}
-use Rattle.rv_decode.specs.declared.instr.Instr.TheVariants.{Upper, Jal, Jalr, Branch, Imm, Shift, Reg, Fence, Ecall, Ebreak}
+use Rattle.rv_decode.specs.declared.instr.Instr.TheVariants.{Upper, Jal, Jalr, Branch, Load, Store, Imm, Shift, Reg, Fence, Ecall, Ebreak}
 use Rattle.rv_decode.specs.declared.instr.Op.{Op}
-use Rattle.rv_decode.specs.declared.instr.Op.TheVariants.{Lui, Auipc, Beq, Bne, Blt, Bge, Bltu, Bgeu, Addi, Slti, Sltiu, Xori, Ori, Andi, Addiw, Slli, Srli, Srai, Slliw, Srliw, Sraiw, Add, Sll, Slt, Sltu, Xor, Srl, Or, And, Sub, Sra, Addw, Sllw, Srlw, Subw, Sraw}
-use Rattle.rv_decode.specs.Field.{opcode, rd, funct3, rs1, rs2, funct7, funct6, amount, amount_w, immediate_i, immediate_b, immediate_u, immediate_j}
+use Rattle.rv_decode.specs.declared.instr.Op.TheVariants.{Lui, Auipc, Beq, Bne, Blt, Bge, Bltu, Bgeu, Lb, Lh, Lw, Ld, Lbu, Lhu, Lwu, Sb, Sh, Sw, Sd, Addi, Slti, Sltiu, Xori, Ori, Andi, Addiw, Slli, Srli, Srai, Slliw, Srliw, Sraiw, Add, Sll, Slt, Sltu, Xor, Srl, Or, And, Sub, Sra, Addw, Sllw, Srlw, Subw, Sraw}
+use Rattle.rv_decode.specs.Field.{opcode, rd, funct3, rs1, rs2, funct7, funct6, amount, amount_w, immediate_i, immediate_s, immediate_b, immediate_u, immediate_j}
 
 -- a line or some lines of the listing: the instruction that they have for a word, if any
 abbrev pub Lines : Type 0
@@ -32,6 +32,12 @@ jump_register word = Some (Jalr (rd word) (rs1 word) (immediate_i word))
 
 abbrev pub branch : Op → Lines
 branch op word = Some (Branch op (rs1 word) (rs2 word) (immediate_b word))
+
+abbrev pub load : Op → Lines
+load op word = Some (Load op (rd word) (rs1 word) (immediate_i word))
+
+abbrev pub store : Op → Lines
+store op word = Some (Store op (rs1 word) (rs2 word) (immediate_s word))
 
 abbrev pub constant : Op → Lines
 constant op word = Some (Imm op (rd word) (rs1 word) (immediate_i word))
@@ -61,6 +67,27 @@ branches = by funct3
     ∷ (0b101, branch Bge)
     ∷ (0b110, branch Bltu)
     ∷ (0b111, branch Bgeu)
+    ∷ [])
+
+-- opcode 0000011
+unfoldable pub loads : Lines
+loads = by funct3
+    ((0b000, load Lb)
+    ∷ (0b001, load Lh)
+    ∷ (0b010, load Lw)
+    ∷ (0b011, load Ld)
+    ∷ (0b100, load Lbu)
+    ∷ (0b101, load Lhu)
+    ∷ (0b110, load Lwu)
+    ∷ [])
+
+-- opcode 0100011
+unfoldable pub stores : Lines
+stores = by funct3
+    ((0b000, store Sb)
+    ∷ (0b001, store Sh)
+    ∷ (0b010, store Sw)
+    ∷ (0b011, store Sd)
     ∷ [])
 
 -- opcode 0010011
@@ -145,6 +172,8 @@ row = by opcode
     ∷ (0b1101111, jump)
     ∷ (0b1100111, jumps)
     ∷ (0b1100011, branches)
+    ∷ (0b0000011, loads)
+    ∷ (0b0100011, stores)
     ∷ (0b0010011, constants)
     ∷ (0b0011011, constants_w)
     ∷ (0b0110011, registers)

@@ -2,9 +2,9 @@
 -- immediates and amounts are such as the form can give. From the RISC-V ISA manual's formats.
 use Rattle.std.specs.Prelude.{ℕ, Bool, true, false, IsTrue, ◌≡◌, ◌<◌, ◌≤◌, ◌-◌, ◌^◌, ◌%◌, ◌⊎◌}
 use Rattle.rv_decode.specs.declared.instr.Instr.{Instr}
-use Rattle.rv_decode.specs.declared.instr.Instr.TheVariants.{Upper, Jal, Jalr, Branch, Imm, Shift, Reg, Fence, Ecall, Ebreak}
+use Rattle.rv_decode.specs.declared.instr.Instr.TheVariants.{Upper, Jal, Jalr, Branch, Load, Store, Imm, Shift, Reg, Fence, Ecall, Ebreak}
 use Rattle.rv_decode.specs.declared.instr.Op.{Op}
-use Rattle.rv_decode.specs.declared.instr.Op.TheVariants.{Lui, Auipc, Beq, Bne, Blt, Bge, Bltu, Bgeu, Addi, Slti, Sltiu, Xori, Ori, Andi, Addiw, Slli, Srli, Srai, Slliw, Srliw, Sraiw, Add, Sll, Slt, Sltu, Xor, Srl, Or, And, Sub, Sra, Addw, Sllw, Srlw, Subw, Sraw}
+use Rattle.rv_decode.specs.declared.instr.Op.TheVariants.{Lui, Auipc, Beq, Bne, Blt, Bge, Bltu, Bgeu, Lb, Lh, Lw, Ld, Lbu, Lhu, Lwu, Sb, Sh, Sw, Sd, Addi, Slti, Sltiu, Xori, Ori, Andi, Addiw, Slli, Srli, Srai, Slliw, Srliw, Sraiw, Add, Sll, Slt, Sltu, Xor, Srl, Or, And, Sub, Sra, Addw, Sllw, Srlw, Subw, Sraw}
 
 -- which names each form has
 abbrev pub is_upper : Op → Bool
@@ -20,6 +20,23 @@ is_branch Bge = true
 is_branch Bltu = true
 is_branch Bgeu = true
 is_branch _ = false
+
+abbrev pub is_load : Op → Bool
+is_load Lb = true
+is_load Lh = true
+is_load Lw = true
+is_load Ld = true
+is_load Lbu = true
+is_load Lhu = true
+is_load Lwu = true
+is_load _ = false
+
+abbrev pub is_store : Op → Bool
+is_store Sb = true
+is_store Sh = true
+is_store Sw = true
+is_store Sd = true
+is_store _ = false
 
 abbrev pub is_immediate : Op → Bool
 is_immediate Addi = true
@@ -69,6 +86,8 @@ IsValid (Upper op rd imm) = IsTrue (is_upper op) × (rd < 32) × IsSigned 32 imm
 IsValid (Jal rd imm) = (rd < 32) × IsSigned 21 imm × (imm % 2 ≡ 0)
 IsValid (Jalr rd rs1 imm) = (rd < 32) × (rs1 < 32) × IsSigned 12 imm
 IsValid (Branch op rs1 rs2 imm) = IsTrue (is_branch op) × (rs1 < 32) × (rs2 < 32) × IsSigned 13 imm × (imm % 2 ≡ 0)
+IsValid (Load op rd rs1 imm) = IsTrue (is_load op) × (rd < 32) × (rs1 < 32) × IsSigned 12 imm
+IsValid (Store op rs1 rs2 imm) = IsTrue (is_store op) × (rs1 < 32) × (rs2 < 32) × IsSigned 12 imm
 IsValid (Imm op rd rs1 imm) = IsTrue (is_immediate op) × (rd < 32) × (rs1 < 32) × IsSigned 12 imm
 IsValid (Shift op rd rs1 amount) = IsAmount op amount × (rd < 32) × (rs1 < 32)
 IsValid (Reg op rd rs1 rs2) = IsTrue (is_register op) × (rd < 32) × (rs1 < 32) × (rs2 < 32)

@@ -1,17 +1,17 @@
 //! The listing of instructions: one function for each opcode with more than one, by its codes.
 
 ghost use Rattle.std.specs.Prelude.{◌≡◌, Some, IsTrue, IfSome};
-ghost use Rattle.rv_decode.specs.Table.{row, upper, jump, jump_register, branch, constant, shift, shift_w, register, fence, jumps, branches, constants, constants_w, registers, registers_w, fences, system};
+ghost use Rattle.rv_decode.specs.Table.{row, upper, jump, jump_register, branch, load, store, constant, shift, shift_w, register, fence, jumps, branches, loads, stores, constants, constants_w, registers, registers_w, fences, system};
 ghost use Rattle.rv_decode.specs.Field.{amount, amount_w};
-ghost use Rattle.rv_decode.specs.Valid.{IsValid, is_upper, is_branch, is_immediate, is_register, IsAmount};
+ghost use Rattle.rv_decode.specs.Valid.{IsValid, is_upper, is_branch, is_load, is_store, is_immediate, is_register, IsAmount};
 
 use crate::fields::{
-    amount, amount_w, funct3, funct6, funct7, immediate_b, immediate_i, immediate_j, immediate_u,
-    opcode, rd, rs1, rs2,
+    amount, amount_w, funct3, funct6, funct7, immediate_b, immediate_i, immediate_j, immediate_s,
+    immediate_u, opcode, rd, rs1, rs2,
 };
 use crate::instr::{Instr, Op};
 
-/// The instruction that a word of 32 bits is by the RISC-V ISA manual: RV64I without loads and stores.
+/// The instruction that a word of 32 bits is by the RISC-V ISA manual: RV64I.
 /// `None`: it is none of them, the zero word among others.
 #[tactic(auto, unfolding(crate::specs::Table::row))]
 pub fn decode(word: u32) -> Option<Instr>
@@ -24,6 +24,8 @@ pub fn decode(word: u32) -> Option<Instr>
         0b110_1111 => Some(jump(word)),
         0b110_0111 => jumps(word),
         0b110_0011 => branches(word),
+        0b000_0011 => loads(word),
+        0b010_0011 => stores(word),
         0b001_0011 => constants(word),
         0b001_1011 => constants_w(word),
         0b011_0011 => registers(word),
@@ -57,6 +59,37 @@ fn branches(word: u32) -> Option<Instr>
         0b101 => Some(branch(Op::Bge, word)),
         0b110 => Some(branch(Op::Bltu, word)),
         0b111 => Some(branch(Op::Bgeu, word)),
+        _ => None,
+    }
+}
+
+#[tactic(auto, unfolding(crate::specs::Table::loads))]
+fn loads(word: u32) -> Option<Instr>
+    ensures row { result ≡ loads word }
+    ensures valid { IfSome result IsValid }
+{
+    match funct3(word) {
+        0b000 => Some(load(Op::Lb, word)),
+        0b001 => Some(load(Op::Lh, word)),
+        0b010 => Some(load(Op::Lw, word)),
+        0b011 => Some(load(Op::Ld, word)),
+        0b100 => Some(load(Op::Lbu, word)),
+        0b101 => Some(load(Op::Lhu, word)),
+        0b110 => Some(load(Op::Lwu, word)),
+        _ => None,
+    }
+}
+
+#[tactic(auto, unfolding(crate::specs::Table::stores))]
+fn stores(word: u32) -> Option<Instr>
+    ensures row { result ≡ stores word }
+    ensures valid { IfSome result IsValid }
+{
+    match funct3(word) {
+        0b000 => Some(store(Op::Sb, word)),
+        0b001 => Some(store(Op::Sh, word)),
+        0b010 => Some(store(Op::Sw, word)),
+        0b011 => Some(store(Op::Sd, word)),
         _ => None,
     }
 }
@@ -195,6 +228,32 @@ fn branch(op: Op, word: u32) -> Instr
         rs1: rs1(word),
         rs2: rs2(word),
         imm: immediate_b(word),
+    }
+}
+
+fn load(op: Op, word: u32) -> Instr
+    requires { IsTrue (is_load op) }
+    ensures row { Some result ≡ load op word }
+    ensures valid { IsValid result }
+{
+    Instr::Load {
+        op,
+        rd: rd(word),
+        rs1: rs1(word),
+        imm: immediate_i(word),
+    }
+}
+
+fn store(op: Op, word: u32) -> Instr
+    requires { IsTrue (is_store op) }
+    ensures row { Some result ≡ store op word }
+    ensures valid { IsValid result }
+{
+    Instr::Store {
+        op,
+        rs1: rs1(word),
+        rs2: rs2(word),
+        imm: immediate_s(word),
     }
 }
 

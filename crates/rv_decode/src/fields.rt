@@ -1,7 +1,7 @@
 //! The fields and the immediates of an instruction word, as the RISC-V ISA manual lays them out.
 
 ghost use Rattle.std.specs.Prelude.{◌≡◌, ◌+◌, ◌%◌, ◌^◌, ◌<◌, ◌≤◌};
-ghost use Rattle.rv_decode.specs.Field.{extended, opcode, rd, funct3, rs1, rs2, funct7, funct6, amount, amount_w, immediate_i, immediate_b, immediate_u, immediate_j};
+ghost use Rattle.rv_decode.specs.Field.{extended, opcode, rd, funct3, rs1, rs2, funct7, funct6, amount, amount_w, immediate_i, immediate_s, immediate_b, immediate_u, immediate_j};
 ghost use Rattle.rv_decode.specs.Valid.{IsSigned};
 
 /// Bits 6 to 0.
@@ -78,6 +78,15 @@ pub fn immediate_i(word: u32) -> u64
     ensures range { IsSigned 12 result }
 {
     extended((word >> 20) as u64, 12)
+}
+
+/// The immediate of the S form.
+pub fn immediate_s(word: u32) -> u64
+    ensures value { result ≡ immediate_s word }
+    ensures range { IsSigned 12 result }
+{
+    let bits = word >> 25 << 5 | (word >> 7 & 0x1f);
+    extended(bits as u64, 12)
 }
 
 /// The immediate of the B form.

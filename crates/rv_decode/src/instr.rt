@@ -9,6 +9,17 @@ pub enum Op {
     Bge,
     Bltu,
     Bgeu,
+    Lb,
+    Lh,
+    Lw,
+    Ld,
+    Lbu,
+    Lhu,
+    Lwu,
+    Sb,
+    Sh,
+    Sw,
+    Sd,
     Addi,
     Slti,
     Sltiu,
@@ -51,6 +62,10 @@ pub enum Instr {
     Jalr { rd: u8, rs1: u8, imm: u64 },
     /// The six branches. The immediate is a multiple of 2.
     Branch { op: Op, rs1: u8, rs2: u8, imm: u64 },
+    /// The seven loads.
+    Load { op: Op, rd: u8, rs1: u8, imm: u64 },
+    /// The four stores: `rs1` gives the address, `rs2` what is stored.
+    Store { op: Op, rs1: u8, rs2: u8, imm: u64 },
     /// Arithmetic with an immediate, shifts aside.
     Imm { op: Op, rd: u8, rs1: u8, imm: u64 },
     /// Shifts by a constant, below 64, or below 32 in the W forms.

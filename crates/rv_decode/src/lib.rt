@@ -1,5 +1,5 @@
-//! From 32-bit words to RV64I instructions, loads and stores aside. The listing of the RISC-V ISA manual
-//! stands in `specs/Table.antt`, and `decode` is proved to follow it, word for word.
+//! From 32-bit words to RV64I instructions. The listing of the RISC-V ISA manual stands in
+//! `specs/Table.antt`, and `decode` is proved to follow it, word for word.
 #![tactic(auto)]
 
 mod decoder;

@@ -73,6 +73,43 @@ fn branches(rt: HostRuntime) {
 }
 
 #[test]
+fn loads(rt: HostRuntime) {
+    let table = [
+        (0xfff5_8503, Op::Lb, 10, 11, minus(1)), // lb a0, -1(a1)
+        (0x7ff5_9503, Op::Lh, 10, 11, 2047), // lh a0, 2047(a1)
+        (0x8005_a503, Op::Lw, 10, 11, minus(2048)), // lw a0, -2048(a1)
+        (0x008f_3f83, Op::Ld, 31, 30, 8), // ld t6, 8(t5)
+        (0x0005_c503, Op::Lbu, 10, 11, 0), // lbu a0, 0(a1)
+        (0xffe1_5083, Op::Lhu, 1, 2, minus(2)), // lhu ra, -2(sp)
+        (0x0045_e503, Op::Lwu, 10, 11, 4), // lwu a0, 4(a1)
+    ];
+    for (word, op, rd, rs1, imm) in table {
+        assert_eq!(rt;
+            decode(word),
+            Some(Instr::Load { op, rd, rs1, imm }),
+            "at {word:#010x}"
+        );
+    }
+}
+
+#[test]
+fn stores(rt: HostRuntime) {
+    let table = [
+        (0xfea5_8fa3, Op::Sb, 11, 10, minus(1)), // sb a0, -1(a1)
+        (0x7ea5_9fa3, Op::Sh, 11, 10, 2047), // sh a0, 2047(a1)
+        (0x81ff_2023, Op::Sw, 30, 31, minus(2048)), // sw t6, -2048(t5)
+        (0x0211_3423, Op::Sd, 2, 1, 40), // sd ra, 40(sp)
+    ];
+    for (word, op, rs1, rs2, imm) in table {
+        assert_eq!(rt;
+            decode(word),
+            Some(Instr::Store { op, rs1, rs2, imm }),
+            "at {word:#010x}"
+        );
+    }
+}
+
+#[test]
 fn constants(rt: HostRuntime) {
     let table = [
         (0x05d0_0893, Op::Addi, 17, 0, 93), // addi a7, zero, 93
@@ -168,8 +205,9 @@ fn other_words_have_no_instruction(rt: HostRuntime) {
     let words = [
         0x0000_0000,
         0xffff_ffff,
-        0x0005_a503, // lw a0, 0(a1)
-        0x00a5_b023, // sd a0, 0(a1)
+        0x0005_f503, // a load with funct3 111
+        0x00a5_c023, // a store with funct3 100
+        0x00a5_f023, // a store with funct3 111
         0x02c5_8533, // mul a0, a1, a2
         0x02c5_853b, // mulw a0, a1, a2
         0x00b6_252f, // amoadd.w a0, a1, (a2)

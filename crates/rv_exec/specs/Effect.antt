@@ -1,20 +1,23 @@
 -- What each instruction does to the registers and the pc. From the RISC-V ISA manual, RV32I and RV64I.
 use Rattle.std.specs.Prelude.{ℕ, ◌%◌, ◌^◌, ◌<◌, Bool, false, not, List, nat_lt, ◌==◌, if◌then◌else◌, bit_and, bit_or, bit_xor}
 use Rattle.rv_decode.specs.declared.instr.Instr.{Instr}
-use Rattle.rv_decode.specs.declared.instr.Instr.TheVariants.{Upper, Jal, Jalr, Branch, Imm, Shift, Reg, Fence, Ecall, Ebreak}
+use Rattle.rv_decode.specs.declared.instr.Instr.TheVariants.{Upper, Jal, Jalr, Branch, Load, Store, Imm, Shift, Reg, Fence, Ecall, Ebreak}
 use Rattle.rv_decode.specs.declared.instr.Op.{Op}
-use Rattle.rv_decode.specs.declared.instr.Op.TheVariants.{Auipc, Beq, Bne, Blt, Bge, Bltu, Bgeu, Addi, Slti, Sltiu, Xori, Ori, Andi, Addiw, Slli, Srli, Srai, Slliw, Srliw, Sraiw, Add, Sll, Slt, Sltu, Xor, Srl, Or, And, Sub, Sra, Addw, Sllw, Srlw, Subw, Sraw}
-use Rattle.sim_base.specs.declared.ends.Cause.TheVariants.{InstrMisaligned, Breakpoint}
+use Rattle.rv_decode.specs.declared.instr.Op.TheVariants.{Lui, Auipc, Beq, Bne, Blt, Bge, Bltu, Bgeu, Addi, Slti, Sltiu, Xori, Ori, Andi, Addiw, Slli, Srli, Srai, Slliw, Srliw, Sraiw, Add, Sll, Slt, Sltu, Xor, Srl, Or, And, Sub, Sra, Addw, Sllw, Srlw, Subw, Sraw}
+use Rattle.sim_base.specs.declared.ends.Cause.{Cause}
+use Rattle.sim_base.specs.declared.ends.Cause.TheVariants.{InstrMisaligned, LoadMisaligned, StoreMisaligned, Breakpoint}
 use Rattle.rv_exec.specs.declared.meaning.Meaning.{Meaning}
-use Rattle.rv_exec.specs.declared.meaning.Meaning.TheVariants.{Next, Call, Trap}
+use Rattle.rv_exec.specs.declared.meaning.Meaning.TheVariants.{Next, Access, Call, Trap}
 use Rattle.rv_exec.specs.Registers.{register}
+use Rattle.rv_exec.specs.Access.{Asked, IsAccess, load_of, store_of}
 use Rattle.rv_exec.specs.Arithmetic.{wrapping_sum, wrapping_difference, signed_lt, truth, even_address, left_shift, logical_shift, arithmetic_shift, word_sum, word_difference, word_left_shift, word_logical_shift, word_arithmetic_shift}
 
 -- what LUI and AUIPC write to rd. In each table below the last row is for names of other forms, which don't
 -- stand in a valid instruction of this form
 abbrev pub upper_value : Op → ℕ → ℕ → ℕ
+upper_value Lui imm pc = imm
 upper_value Auipc imm pc = wrapping_sum pc imm
-upper_value _ imm pc = imm
+upper_value _ imm pc = 0
 
 -- whether a branch is taken, by what rs1 and rs2 hold
 abbrev pub is_taken : Op → ℕ → ℕ → Bool
@@ -74,6 +77,10 @@ advance rd value pc = Next rd value (wrapping_sum pc 4)
 abbrev pub jump : ℕ → ℕ → ℕ → Meaning
 jump rd value target = if target % 4 == 0 then Next rd value target else Trap InstrMisaligned
 
+-- an access to memory: its address is a multiple of its size, or it traps
+abbrev pub access_or_trap : Asked → Cause → Meaning
+access_or_trap access cause = if access.addr % access.size == 0 then Access access else Trap cause
+
 -- what an instruction at pc does, by what the registers hold
 abbrev pub effect_of : Instr → List ℕ → ℕ → Meaning
 effect_of (Upper op rd imm) regs pc = advance rd (upper_value op imm pc) pc
@@ -81,6 +88,10 @@ effect_of (Jal rd imm) regs pc = jump rd (wrapping_sum pc 4) (wrapping_sum pc im
 effect_of (Jalr rd rs1 imm) regs pc = jump rd (wrapping_sum pc 4) (even_address (wrapping_sum (register regs rs1) imm))
 effect_of (Branch op rs1 rs2 imm) regs pc =
     if is_taken op (register regs rs1) (register regs rs2) then jump 0 0 (wrapping_sum pc imm) else advance 0 0 pc
+effect_of (Load op rd rs1 imm) regs pc =
+    access_or_trap (load_of op rd (wrapping_sum (register regs rs1) imm)) LoadMisaligned
+effect_of (Store op rs1 rs2 imm) regs pc =
+    access_or_trap (store_of op (wrapping_sum (register regs rs1) imm) (register regs rs2)) StoreMisaligned
 effect_of (Imm op rd rs1 imm) regs pc = advance rd (immediate_value op (register regs rs1) imm) pc
 effect_of (Shift op rd rs1 amount) regs pc = advance rd (shift_value op (register regs rs1) amount) pc
 effect_of (Reg op rd rs1 rs2) regs pc = advance rd (register_value op (register regs rs1) (register regs rs2)) pc
@@ -91,4 +102,10 @@ effect_of Ebreak regs pc = Trap Breakpoint
 -- the register that is written has a number below 32
 abbrev pub HasRegister : Meaning → Type 0
 HasRegister (Next rd value pc) = rd < 32
+HasRegister (Access access) = access.rd < 32
 HasRegister _ = Unit {0}
+
+-- what is known of an access that is asked for
+abbrev pub HasAccess : Meaning → Type 0
+HasAccess (Access access) = IsAccess access
+HasAccess _ = Unit {0}

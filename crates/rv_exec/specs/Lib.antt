@@ -1,4 +1,5 @@
 pub use Rattle.rv_decode.specs.Valid
 pub mod Registers
 pub mod Arithmetic
+pub mod Access
 pub mod Effect

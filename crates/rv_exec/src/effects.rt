@@ -1,25 +1,31 @@
-ghost use Rattle.std.specs.Prelude.{◌≡◌, ◌<◌};
-ghost use Rattle.rv_decode.specs.Valid.{IsValid};
+ghost use Rattle.std.specs.Prelude.{◌≡◌, ◌<◌, ◌%◌, ◌==◌, IsTrue};
+ghost use Rattle.rv_decode.specs.Valid.{IsValid, is_load, is_store};
+ghost use Rattle.sim_base.specs.declared.ends.Cause.TheVariants.{LoadMisaligned, StoreMisaligned};
 ghost use Rattle.rv_exec.specs.Arithmetic.{even_address};
-ghost use Rattle.rv_exec.specs.Effect.{effect_of, jump, advance, HasRegister};
+ghost use Rattle.rv_exec.specs.Access.{load_of, store_of, size_of, is_signed};
+ghost use Rattle.rv_exec.specs.Effect.{effect_of, jump, advance, access_or_trap, HasRegister, HasAccess};
 
+use crate::access::{Access, AccessOp};
 use crate::meaning::Meaning;
 use crate::registers::Regs;
 use crate::values::{
-    takes, value_of_immediate, value_of_registers, value_of_shift, value_of_upper,
+    bytes_of_load, bytes_of_store, has_sign, takes, value_of_immediate, value_of_registers,
+    value_of_shift, value_of_upper,
 };
-use rv_decode::Instr;
+use rv_decode::{Instr, Op};
 use sim_base::Cause;
 
 /// What an instruction at `pc` does, by what the registers hold. It changes nothing itself. The
 /// rules are those of the RISC-V ISA manual; arithmetic is modulo 2^64, addresses included.
 ///
 /// A jump, or a branch that is taken, to an address that isn't a multiple of 4 traps; a branch
-/// that isn't taken goes on, whatever its target. A FENCE does nothing.
+/// that isn't taken goes on, whatever its target. A load or a store whose address isn't a multiple
+/// of its size traps. A FENCE does nothing.
 pub fn effect(instr: &Instr, regs: &Regs, pc: u64) -> Meaning
     requires { IsValid instr.now }
     ensures meaning { result ≡ effect_of instr.now regs.now pc }
     ensures register { HasRegister result }
+    ensures access { HasAccess result }
 {
     match *instr {
         Instr::Upper { op, rd, imm } => go_on(rd, value_of_upper(op, imm, pc), pc),
@@ -34,6 +40,10 @@ pub fn effect(instr: &Instr, regs: &Regs, pc: u64) -> Meaning
             } else {
                 go_on(0, 0, pc)
             }
+        }
+        Instr::Load { op, rd, rs1, imm } => load_from(op, rd, regs.get(rs1).wrapping_add(imm)),
+        Instr::Store { op, rs1, rs2, imm } => {
+            store_to(op, regs.get(rs1).wrapping_add(imm), regs.get(rs2))
         }
         Instr::Imm { op, rd, rs1, imm } => {
             go_on(rd, value_of_immediate(op, regs.get(rs1), imm), pc)
@@ -83,6 +93,67 @@ fn jump_to(rd: u8, value: u64, target: u64) -> Meaning
             cause: Cause::InstrMisaligned,
         }
     }
+}
+
+/// A load to `rd`, below 32; a trap where `addr` isn't a multiple of its size.
+fn load_from(op: Op, rd: u8, addr: u64) -> Meaning
+    requires load { IsTrue (is_load op) }
+    requires register { rd < 32 }
+    ensures meaning { result ≡ access_or_trap (load_of op rd addr) LoadMisaligned }
+    ensures register { HasRegister result }
+    ensures access { HasAccess result }
+{
+    let size = bytes_of_load(op);
+    if is_multiple(addr, size) {
+        Meaning::Access {
+            access: Access {
+                op: AccessOp::Load,
+                rd,
+                addr,
+                size,
+                signed: has_sign(op),
+                value: 0,
+            },
+        }
+    } else {
+        Meaning::Trap {
+            cause: Cause::LoadMisaligned,
+        }
+    }
+}
+
+/// A store of `value`; a trap where `addr` isn't a multiple of its size.
+fn store_to(op: Op, addr: u64, value: u64) -> Meaning
+    requires { IsTrue (is_store op) }
+    ensures meaning { result ≡ access_or_trap (store_of op addr value) StoreMisaligned }
+    ensures register { HasRegister result }
+    ensures access { HasAccess result }
+{
+    let size = bytes_of_store(op);
+    if is_multiple(addr, size) {
+        Meaning::Access {
+            access: Access {
+                op: AccessOp::Store,
+                rd: 0,
+                addr,
+                size,
+                signed: false,
+                value,
+            },
+        }
+    } else {
+        Meaning::Trap {
+            cause: Cause::StoreMisaligned,
+        }
+    }
+}
+
+/// Whether an address is a multiple of a size.
+fn is_multiple(addr: u64, size: u8) -> bool
+    requires { 0 < size }
+    ensures { result ≡ addr % size == 0 }
+{
+    addr % u64::from(size) == 0
 }
 
 /// An address with its bit 0 cleared.

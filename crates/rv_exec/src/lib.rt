@@ -1,12 +1,14 @@
-//! What an RV64I instruction does, loads and stores aside: the registers, and the effect of each
-//! instruction on them and on the pc. The rules are those of the RISC-V ISA manual.
+//! What an RV64I instruction does: the registers, the effect of each instruction on them and on the pc,
+//! and the accesses to memory that loads and stores ask for. The rules are those of the RISC-V ISA manual.
 #![tactic(auto)]
 
+mod access;
 mod effects;
 mod meaning;
 mod registers;
 mod values;
 
+pub use access::{Access, AccessOp, Done, finish};
 pub use effects::effect;
 pub use meaning::Meaning;
 pub use registers::Regs;

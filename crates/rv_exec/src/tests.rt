@@ -12,6 +12,14 @@ const BREAKPOINT: Meaning = Meaning::Trap {
     cause: Cause::Breakpoint,
 };
 
+const LOAD_MISALIGNED: Meaning = Meaning::Trap {
+    cause: Cause::LoadMisaligned,
+};
+
+const STORE_MISALIGNED: Meaning = Meaning::Trap {
+    cause: Cause::StoreMisaligned,
+};
+
 fn next(rd: u8, value: u64, pc: u64) -> Meaning {
     Meaning::Next { rd, value, pc }
 }
@@ -247,6 +255,146 @@ fn jumps_branches_and_traps(rt: HostRuntime) {
         ("ebreak", 0x0010_0073, 0, 0, BREAKPOINT),
     ] {
         assert_eq!(rt; meaning_of(word, a, b), Some(meaning), "at {text}");
+    }
+}
+
+/// The access that a word asks for, where x1 holds `a` and x2 holds `b`.
+fn access_of(word: u32, a: u64, b: u64) -> Option<Access> {
+    match meaning_of(word, a, b)? {
+        Meaning::Access { access } => Some(access),
+        _ => None,
+    }
+}
+
+#[test]
+fn asks_for_loads(rt: HostRuntime) {
+    for (text, word, a, addr, size, signed) in [
+        ("lb x3, 1(x1)", 0x0010_8183, 0x2000, 0x2001, 1, true),
+        ("lb x3, -1(x1)", 0xfff0_8183, 0, u64::MAX, 1, true),
+        ("lbu x3, 3(x1)", 0x0030_c183, 0x2000, 0x2003, 1, false),
+        ("lh x3, 2(x1)", 0x0020_9183, 0x2000, 0x2002, 2, true),
+        ("lhu x3, 2(x1)", 0x0020_d183, 0x2000, 0x2002, 2, false),
+        (
+            "lw x3, 4(x1)",
+            0x0040_a183,
+            0xffff_ffff_ffff_fffc,
+            0,
+            4,
+            true,
+        ),
+        ("lwu x3, 4(x1)", 0x0040_e183, 0x2000, 0x2004, 4, false),
+        ("ld x3, 8(x1)", 0x0080_b183, 0x2000, 0x2008, 8, true),
+    ] {
+        let Some(access) = access_of(word, a, 7) else {
+            assert!(rt; false, "at {text}");
+            return;
+        };
+        assert_eq!(rt;
+            (access.op(), access.rd()),
+            (AccessOp::Load, 3),
+            "at {text}"
+        );
+        assert_eq!(rt; (access.addr(), access.size()), (addr, size), "at {text}");
+        assert_eq!(rt; (access.signed, access.value), (signed, 0), "at {text}");
+    }
+}
+
+#[test]
+fn asks_for_stores(rt: HostRuntime) {
+    for (text, word, a, addr, size) in [
+        ("sb x2, 1(x1)", 0x0020_80a3, 0x2000, 0x2001, 1),
+        ("sh x2, 2(x1)", 0x0020_9123, 0xffff_ffff_ffff_fffe, 0, 2),
+        ("sw x2, -4(x1)", 0xfe20_ae23, 0x2000, 0x1ffc, 4),
+        ("sd x2, 8(x1)", 0x0020_b423, 0x2000, 0x2008, 8),
+    ] {
+        let Some(access) = access_of(word, a, 7) else {
+            assert!(rt; false, "at {text}");
+            return;
+        };
+        assert_eq!(rt;
+            (access.op(), access.rd()),
+            (AccessOp::Store, 0),
+            "at {text}"
+        );
+        assert_eq!(rt; (access.addr(), access.size()), (addr, size), "at {text}");
+        assert_eq!(rt; (access.signed, access.value), (false, 7), "at {text}");
+    }
+}
+
+#[test]
+fn misaligned_accesses_trap(rt: HostRuntime) {
+    for (text, word, a, meaning) in [
+        ("lh x3, 2(x1)", 0x0020_9183, 0x2001, LOAD_MISALIGNED),
+        ("lhu x3, 2(x1)", 0x0020_d183, 0x2001, LOAD_MISALIGNED),
+        ("lw x3, 4(x1)", 0x0040_a183, 0x2002, LOAD_MISALIGNED),
+        ("lwu x3, 4(x1)", 0x0040_e183, 0x2001, LOAD_MISALIGNED),
+        ("ld x3, 8(x1)", 0x0080_b183, 0x2004, LOAD_MISALIGNED),
+        ("sh x2, 2(x1)", 0x0020_9123, 0x2001, STORE_MISALIGNED),
+        ("sw x2, -4(x1)", 0xfe20_ae23, 0x2002, STORE_MISALIGNED),
+        ("sd x2, 8(x1)", 0x0020_b423, 0x2004, STORE_MISALIGNED),
+    ] {
+        assert_eq!(rt; meaning_of(word, a, 7), Some(meaning), "at {text}");
+    }
+}
+
+/// What the access of a word gives at 0x2000, where its bytes hold `old` and x2 holds `b`.
+fn done_of(word: u32, old: u64, b: u64) -> Option<Done> {
+    let access = access_of(word, 0x2000, b)?;
+    match access.size() {
+        1 if old < 1 << 8 => Some(finish(&access, old)),
+        2 if old < 1 << 16 => Some(finish(&access, old)),
+        4 if old < 1 << 32 => Some(finish(&access, old)),
+        8 => Some(finish(&access, old)),
+        _ => None,
+    }
+}
+
+#[test]
+fn loads_give_what_they_read(rt: HostRuntime) {
+    for (text, word, old, value) in [
+        ("lb x3, 1(x1)", 0x0010_8183, 0x80, 0xffff_ffff_ffff_ff80),
+        ("lb x3, 1(x1)", 0x0010_8183, 0x7f, 0x7f),
+        ("lbu x3, 3(x1)", 0x0030_c183, 0x80, 0x80),
+        ("lh x3, 2(x1)", 0x0020_9183, 0x8001, 0xffff_ffff_ffff_8001),
+        ("lh x3, 2(x1)", 0x0020_9183, 0x7fff, 0x7fff),
+        ("lhu x3, 2(x1)", 0x0020_d183, 0xffff, 0xffff),
+        (
+            "lw x3, 4(x1)",
+            0x0040_a183,
+            0x8000_0001,
+            0xffff_ffff_8000_0001,
+        ),
+        ("lw x3, 4(x1)", 0x0040_a183, 0x7fff_ffff, 0x7fff_ffff),
+        ("lwu x3, 4(x1)", 0x0040_e183, 0x8000_0001, 0x8000_0001),
+        (
+            "ld x3, 8(x1)",
+            0x0080_b183,
+            0x8000_0000_0000_0001,
+            0x8000_0000_0000_0001,
+        ),
+    ] {
+        let done = Done { value, write: None };
+        assert_eq!(rt; done_of(word, old, 7), Some(done), "at {text}");
+    }
+}
+
+#[test]
+fn stores_write_their_low_bytes(rt: HostRuntime) {
+    for (text, word, written) in [
+        ("sb x2, 1(x1)", 0x0020_80a3, 0xf0),
+        ("sh x2, 2(x1)", 0x0020_9123, 0xdef0),
+        ("sw x2, -4(x1)", 0xfe20_ae23, 0x9abc_def0),
+        ("sd x2, 8(x1)", 0x0020_b423, 0xf234_5678_9abc_def0),
+    ] {
+        let done = Done {
+            value: 0,
+            write: Some(written),
+        };
+        assert_eq!(rt;
+            done_of(word, 0x55, 0xf234_5678_9abc_def0),
+            Some(done),
+            "at {text}"
+        );
     }
 }
 

@@ -1,8 +1,9 @@
-//! The numbers that instructions write, and the branches' tests.
+//! The numbers that instructions write, the branches' tests, and the sizes and signs of accesses.
 ghost use Rattle.std.specs.Prelude.{◌≡◌, ◌<◌, IsTrue};
 ghost use Rattle.rv_decode.specs.Field.{extended};
-ghost use Rattle.rv_decode.specs.Valid.{is_upper, is_branch, is_immediate, is_register, IsAmount};
+ghost use Rattle.rv_decode.specs.Valid.{is_upper, is_branch, is_load, is_store, is_immediate, is_register, IsAmount};
 ghost use Rattle.rv_exec.specs.Arithmetic.{signed_lt, low_word, arithmetic_shift, word_arithmetic_shift};
+ghost use Rattle.rv_exec.specs.Access.{size_of, is_size, is_signed};
 ghost use Rattle.rv_exec.specs.Effect.{upper_value, is_taken, immediate_value, shift_value, register_value};
 
 use rv_decode::Op;
@@ -96,6 +97,48 @@ pub(crate) fn value_of_registers(op: Op, a: u64, b: u64) -> u64
     }
 }
 
+/// How many bytes a load reads.
+pub(crate) fn bytes_of_load(op: Op) -> u8
+    requires { IsTrue (is_load op) }
+    ensures value { result ≡ size_of op }
+    ensures sized { IsTrue (is_size result) }
+{
+    match op {
+        Op::Lb | Op::Lbu => 1,
+        Op::Lh | Op::Lhu => 2,
+        Op::Lw | Op::Lwu => 4,
+        Op::Ld => 8,
+        _ => unreachable!(),
+    }
+}
+
+/// How many bytes a store writes.
+pub(crate) fn bytes_of_store(op: Op) -> u8
+    requires { IsTrue (is_store op) }
+    ensures value { result ≡ size_of op }
+    ensures sized { IsTrue (is_size result) }
+{
+    match op {
+        Op::Sb => 1,
+        Op::Sh => 2,
+        Op::Sw => 4,
+        Op::Sd => 8,
+        _ => unreachable!(),
+    }
+}
+
+/// Whether a load reads a signed number.
+pub(crate) fn has_sign(op: Op) -> bool
+    requires { IsTrue (is_load op) }
+    ensures { result ≡ is_signed op }
+{
+    match op {
+        Op::Lb | Op::Lh | Op::Lw | Op::Ld => true,
+        Op::Lbu | Op::Lhu | Op::Lwu => false,
+        _ => unreachable!(),
+    }
+}
+
 /// Whether `a` is less than `b` in two's complement.
 fn is_signed_less(a: u64, b: u64) -> bool
     ensures { result ≡ signed_lt a b }
@@ -127,7 +170,7 @@ fn word(n: u64) -> u32
 }
 
 /// A word as 64 bits with the same signed value.
-fn sign_extended(n: u32) -> u64
+pub(crate) fn sign_extended(n: u32) -> u64
     ensures { result ≡ extended 32 n }
 {
     i64::from(n.cast_signed()).cast_unsigned()

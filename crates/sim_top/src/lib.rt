@@ -7,6 +7,8 @@ mod outcomes;
 mod putting;
 mod report;
 #[cfg(test)]
+mod sort_image;
+#[cfg(test)]
 mod tests;
 mod top;
 mod words;

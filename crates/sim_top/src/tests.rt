@@ -1,10 +1,11 @@
 //! Whole runs, from the words and the file to the text and the status. Expected values are worked out by
 //! hand from the RISC-V ISA manual and the rules of the calls.
 
+use crate::sort_image::SORT;
 use crate::{Finish, Outcome, execute_alone};
 use elf_image::{ImageFault, World, read_image};
 use flat_machine::{ActFault, Flat, run};
-use sim_base::{Action, End, Text};
+use sim_base::{Action, Cause, End, Text};
 use sim_outside::{MemFiles, MemSink};
 use std::alloc::{AllocError, Global};
 use std::test::Fail;
@@ -302,5 +303,188 @@ fn a_full_output_takes_no_more(rt: HostRuntime) -> Result<(), Fail> {
     let flat = run(alloc, &world, 1_100_000)?;
     assert_eq!(rt; flat.ended(), Some(End::Exit { code: 228 }));
     assert_eq!(rt; flat.output().len(), 1_048_576);
+    Ok(())
+}
+
+#[test]
+fn loads_and_stores_meet_the_flat_memory(rt: HostRuntime) -> Result<(), Fail> {
+    // The heap is [0x11000, 0x111000) and the stack [0x112000, 0x122000).
+    let alloc = rt.alloc();
+    let rows: [(&str, &[u32], End); 20] = [
+        (
+            "eight bytes into the heap, the last one out",
+            &[
+                0x00011437, 0xFFF00293, 0x00543023, 0x00744503, 0x05E00893, 0x00000073,
+            ],
+            End::Exit { code: 255 },
+        ),
+        (
+            "the heap's last byte",
+            &[
+                0x00111437, 0xFFF00293, 0xFE540FA3, 0xFFF44503, 0x05E00893, 0x00000073,
+            ],
+            End::Exit { code: 255 },
+        ),
+        (
+            "past the heap",
+            &[0x00111437, 0x00540023, 0x05E00893, 0x00000073],
+            End::Trap {
+                thread: 0,
+                cause: Cause::StoreAccess,
+                pc: 0x10124,
+            },
+        ),
+        (
+            "before the heap",
+            &[0x00011437, 0xFE540FA3, 0x05E00893, 0x00000073],
+            End::Trap {
+                thread: 0,
+                cause: Cause::StoreAccess,
+                pc: 0x10124,
+            },
+        ),
+        (
+            "the stack's first byte",
+            &[
+                0x00112437, 0x05A00293, 0x00540023, 0x00040503, 0x05E00893, 0x00000073,
+            ],
+            End::Exit { code: 90 },
+        ),
+        (
+            "before the stack",
+            &[0x00112437, 0xFFF40503, 0x05E00893, 0x00000073],
+            End::Trap {
+                thread: 0,
+                cause: Cause::LoadAccess,
+                pc: 0x10124,
+            },
+        ),
+        (
+            "the stack's last byte",
+            &[
+                0x00122437, 0x05B00293, 0xFE540FA3, 0xFFF40503, 0x05E00893, 0x00000073,
+            ],
+            End::Exit { code: 91 },
+        ),
+        (
+            "past the stack",
+            &[0x00122437, 0x00540023, 0x05E00893, 0x00000073],
+            End::Trap {
+                thread: 0,
+                cause: Cause::StoreAccess,
+                pc: 0x10124,
+            },
+        ),
+        (
+            "the segment isn't written",
+            &[0x00010437, 0x00540023, 0x05E00893, 0x00000073],
+            End::Trap {
+                thread: 0,
+                cause: Cause::StoreAccess,
+                pc: 0x10124,
+            },
+        ),
+        (
+            "the segment is read",
+            &[0x00010437, 0x00144503, 0x05E00893, 0x00000073],
+            End::Exit { code: 69 },
+        ),
+        (
+            "alignment before rights",
+            &[0x00000413, 0x00543223, 0x05E00893, 0x00000073],
+            End::Trap {
+                thread: 0,
+                cause: Cause::StoreMisaligned,
+                pc: 0x10124,
+            },
+        ),
+        (
+            "the last eight bytes of the address space",
+            &[0xFF800413, 0x00043503, 0x05E00893, 0x00000073],
+            End::Trap {
+                thread: 0,
+                cause: Cause::LoadAccess,
+                pc: 0x10124,
+            },
+        ),
+        (
+            "an address that wraps to 0",
+            &[0xFF800413, 0x00843503, 0x05E00893, 0x00000073],
+            End::Trap {
+                thread: 0,
+                cause: Cause::LoadAccess,
+                pc: 0x10124,
+            },
+        ),
+        (
+            "a word at 2",
+            &[0x00011437, 0x00242503, 0x05E00893, 0x00000073],
+            End::Trap {
+                thread: 0,
+                cause: Cause::LoadMisaligned,
+                pc: 0x10124,
+            },
+        ),
+        (
+            "the high byte of a half word has its sign",
+            &[
+                0x00011437, 0xF8100293, 0x00541323, 0x00740503, 0x05E00893, 0x00000073,
+            ],
+            End::Exit { code: 255 },
+        ),
+        (
+            "a half word of a small word is positive",
+            &[
+                0x00011437, 0x08100293, 0x00542023, 0x00041503, 0x00052533, 0x05E00893, 0x00000073,
+            ],
+            End::Exit { code: 0 },
+        ),
+        (
+            "an unsigned word is positive",
+            &[
+                0x00011437, 0xFFF00293, 0x00542223, 0x00446503, 0x00052533, 0x05E00893, 0x00000073,
+            ],
+            End::Exit { code: 0 },
+        ),
+        (
+            "a word is negative",
+            &[
+                0x00011437, 0xFFF00293, 0x00542223, 0x00442503, 0x00052533, 0x05E00893, 0x00000073,
+            ],
+            End::Exit { code: 1 },
+        ),
+        (
+            "a word leaves the one before it",
+            &[
+                0x00011437, 0xFFF00293, 0x00542223, 0x00043503, 0x01F55513, 0x05E00893, 0x00000073,
+            ],
+            End::Exit { code: 254 },
+        ),
+        (
+            "a byte amid a word",
+            &[
+                0x00011437, 0xFFF00293, 0x005401A3, 0x00046503, 0x01455513, 0x05E00893, 0x00000073,
+            ],
+            End::Exit { code: 240 },
+        ),
+    ];
+    for (name, code, end) in rows {
+        let file = image(alloc, code, b"")?;
+        let world = World::new(read_image(alloc, file.as_slice())?);
+        let flat = run(alloc, &world, 1_000)?;
+        assert_eq!(rt; flat.ended(), Some(end), "{name}");
+    }
+    Ok(())
+}
+
+#[test]
+fn a_compiled_program_runs(rt: HostRuntime) -> Result<(), Fail> {
+    // Its source and how it was compiled are in examples/sort; qemu-riscv64 prints the same.
+    let alloc = rt.alloc();
+    let (finish, taken) = run_alone(alloc, SORT.to_vec(alloc)?)?;
+    let text =
+        b"206 286 716 940 991 1371 1438 2460 2471 3151 3237 3563 3729 4173 4500 5334 5372 5477 6183 6263 6364 6561 7020 8174\n1 0 0 2 10 4\n== tilesim ==\nend: exit 7\n";
+    assert_eq!(rt; taken.as_slice(), text.as_slice());
+    assert_eq!(rt; finish.outcome, Outcome::Done { code: 7 });
     Ok(())
 }

@@ -1,0 +1,138 @@
+ghost use Rattle.std.specs.Prelude.{◌≡◌, ◌*◌, ◌^◌, ◌<◌, IsTrue};
+ghost use Rattle.rv_decode.specs.Field.{extended};
+ghost use Rattle.rv_exec.specs.Access.{IsAccess, is_size, low_bytes, finish_of};
+
+use crate::values::sign_extended;
+use std::marker::Model;
+
+/// What a memory access does.
+#[derive(Clone, Copy, Debug, PartialEq, Eq)]
+pub enum AccessOp {
+    /// It reads.
+    Load,
+    /// It writes.
+    Store,
+}
+
+/// One access to memory that an instruction asks for. Its address is a multiple of its size.
+#[derive(Clone, Copy, Debug, PartialEq, Eq)]
+pub struct Access {
+    /// Whether it reads or writes.
+    pub op: AccessOp,
+    /// The register that gets what is read, below 32; 0 for a store.
+    pub rd: u8,
+    /// The address of its first byte.
+    pub addr: u64,
+    /// How many bytes it has: 1, 2, 4 or 8.
+    pub size: u8,
+    /// Whether what is read is a signed number.
+    pub signed: bool,
+    /// What is stored, in its low `size` bytes; 0 for a load.
+    pub value: u64,
+}
+
+impl Model for Access {
+    ghost use Rattle.rv_exec.specs.Access.{Asked, IsAccess};
+
+    ghost Value = { Asked };
+
+    ghost view = { λ a. record { op = a.op; rd = a.rd; addr = a.addr; size = a.size; signed = a.signed; value = a.value } };
+
+    ghost invariant = { λ a. IsAccess (record { op = a.op; rd = a.rd; addr = a.addr; size = a.size; signed = a.signed; value = a.value }) };
+
+    ghost inverse = { λ v. record { op = v.op; rd = v.rd; addr = v.addr; size = v.size; signed = v.signed; value = v.value } };
+}
+
+impl Access {
+    /// Whether it reads or writes.
+    pub fn op(&self) -> AccessOp
+        ensures value { result ≡ self.now.op }
+        ensures known { IsAccess self.now }
+    {
+        self.op
+    }
+
+    /// The register that gets what is read, below 32; 0 for a store.
+    pub fn rd(&self) -> u8
+        ensures value { result ≡ self.now.rd }
+        ensures known { IsAccess self.now }
+    {
+        self.rd
+    }
+
+    /// The address of its first byte, a multiple of its size.
+    pub fn addr(&self) -> u64
+        ensures value { result ≡ self.now.addr }
+        ensures known { IsAccess self.now }
+    {
+        self.addr
+    }
+
+    /// How many bytes it has: 1, 2, 4 or 8.
+    pub fn size(&self) -> u8
+        ensures value { result ≡ self.now.size }
+        ensures known { IsAccess self.now }
+    {
+        self.size
+    }
+}
+
+/// What an access gives: what `rd` gets, and what is written, if anything.
+#[derive(Clone, Copy, Debug, PartialEq, Eq)]
+pub struct Done {
+    /// What `rd` gets; 0 for a store, whose `rd` is 0.
+    pub value: u64,
+    /// The number that the access's bytes hold afterwards, where it writes them.
+    pub write: Option<u64>,
+}
+
+/// What an access gives where its bytes hold the number `old`. Numbers in memory are little-endian, and
+/// have as many bytes as the access. The rules are those of the RISC-V ISA manual.
+pub fn finish(access: &Access, old: u64) -> Done
+    requires { old < 2 ^ (8 * access.now.size) }
+    ensures { result ≡ finish_of access.now old }
+{
+    match access.op {
+        AccessOp::Load => {
+            let value = if access.signed {
+                with_sign(old, access.size)
+            } else {
+                old
+            };
+            Done { value, write: None }
+        }
+        AccessOp::Store => {
+            let write = Some(low_part(access.value, access.size));
+            Done { value: 0, write }
+        }
+    }
+}
+
+/// A number of `size` bytes as 64 bits with the same signed value.
+fn with_sign(n: u64, size: u8) -> u64
+    requires sized { IsTrue (is_size size) }
+    requires fits { n < 2 ^ (8 * size) }
+    ensures { result ≡ extended (8 * size) n }
+{
+    match size {
+        1 => i64::from((n as u8).cast_signed()).cast_unsigned(),
+        2 => i64::from((n as u16).cast_signed()).cast_unsigned(),
+        4 => sign_extended(n as u32),
+        8 => n,
+        _ => unreachable!(),
+    }
+}
+
+/// The low `size` bytes of a number.
+fn low_part(n: u64, size: u8) -> u64
+    requires { IsTrue (is_size size) }
+    ensures { result ≡ low_bytes size n }
+{
+    match size {
+        1 => n % (1 << 8),
+        2 => n % (1 << 16),
+        4 => n % (1 << 32),
+        8 => n,
+        _ => unreachable!(),
+    }
+}
