@@ -1,2 +1,5 @@
 pub mod Ranges
-pub mod OneHeader
+pub mod Loads
+pub mod Refusals
+pub mod Accepted
+pub mod Written

@@ -10,35 +10,35 @@ abbrev pub number_at : ℕ → ℕ → List ℕ → ℕ
 number_at n at bytes = little_number n (drop at bytes)
 
 -- the fields of the file header, in the file's order; class, data and version are bytes of e_ident
-abbrev pub class : List ℕ → ℕ
+unfoldable pub class : List ℕ → ℕ
 class bytes = slice_index bytes 4
 
-abbrev pub data_encoding : List ℕ → ℕ
+unfoldable pub data_encoding : List ℕ → ℕ
 data_encoding bytes = slice_index bytes 5
 
-abbrev pub ident_version : List ℕ → ℕ
+unfoldable pub ident_version : List ℕ → ℕ
 ident_version bytes = slice_index bytes 6
 
-abbrev pub e_type : List ℕ → ℕ
+unfoldable pub e_type : List ℕ → ℕ
 e_type bytes = number_at 2 16 bytes
 
-abbrev pub e_machine : List ℕ → ℕ
+unfoldable pub e_machine : List ℕ → ℕ
 e_machine bytes = number_at 2 18 bytes
 
-abbrev pub e_entry : List ℕ → ℕ
+unfoldable pub e_entry : List ℕ → ℕ
 e_entry bytes = number_at 8 24 bytes
 
-abbrev pub e_phoff : List ℕ → ℕ
+unfoldable pub e_phoff : List ℕ → ℕ
 e_phoff bytes = number_at 8 32 bytes
 
-abbrev pub e_phentsize : List ℕ → ℕ
+unfoldable pub e_phentsize : List ℕ → ℕ
 e_phentsize bytes = number_at 2 54 bytes
 
-abbrev pub e_phnum : List ℕ → ℕ
+unfoldable pub e_phnum : List ℕ → ℕ
 e_phnum bytes = number_at 2 56 bytes
 
 -- the program header that stands at a place of the file
-abbrev pub header_from : List ℕ → ℕ → ProgramHeader
+unfoldable pub header_from : List ℕ → ℕ → ProgramHeader
 header_from bytes at = record {
   kind = number_at 4 at bytes;
   flags = number_at 4 (at + 4) bytes;

@@ -1,13 +1,13 @@
 -- Which ELF64 files this simulator takes, and the program that such a file holds. The fields are those
 -- of the System V ABI, the machine that of the RISC-V ELF psABI; which files are refused, and the
 -- limits, are this simulator's own.
-use Rattle.std.specs.Prelude.{ℕ, ◌+◌, ◌*◌, ◌/◌, ◌%◌, ◌^◌, ◌==◌, ◌≤◌, ◌<◌, ◌≡◌, ◌&&◌, ◌||◌, Bool, true, false, not, List, [], ◌∷◌, length, map, take, drop, min, max, nat_lt, nat_le, nat_eq, if◌then◌else◌, Result, Ok, Err, All, sum_by}
+use Rattle.std.specs.Prelude.{ℕ, ◌+◌, ◌*◌, ◌/◌, ◌%◌, ◌^◌, ◌==◌, ◌≤◌, ◌<◌, ◌≡◌, ◌&&◌, ◌||◌, Bool, true, false, not, List, [], ◌∷◌, length, map, take, drop, min, max, nat_lt, nat_le, nat_eq, ◌++◌, if◌then◌else◌, Option, Some, None, Result, Ok, Err, All, sum_by}
 use Rattle.std.specs.List.{list_any, starts_with}
 use Rattle.elf_image.specs.declared.headers.ProgramHeader.{ProgramHeader}
-use Rattle.elf_image.specs.Header.{number_at, headers, loads, class, data_encoding, ident_version, e_type, e_machine, e_entry, e_phoff, e_phentsize, e_phnum}
+use Rattle.elf_image.specs.Header.{headers, loads, class, data_encoding, ident_version, e_type, e_machine, e_entry, e_phoff, e_phentsize, e_phnum}
 use Rattle.elf_image.specs.declared.program.Segment.{Segment}
 use Rattle.elf_image.specs.declared.refusal.ImageFault.{ImageFault}
-use Rattle.elf_image.specs.declared.refusal.ImageFault.TheVariants.{Form}
+use Rattle.elf_image.specs.declared.refusal.ImageFault.TheVariants.{TooLong, Short, Magic, Class, Kind, Machine, Headers, Dynamic, Interp, Tls, Reach, Overlap, WriteExec, Entry}
 use Rattle.elf_image.specs.declared.refusal.ImageRefusal.{ImageRefusal}
 use Rattle.elf_image.specs.declared.refusal.ImageRefusal.TheVariants.{Bad, NoMemory}
 
@@ -57,6 +57,10 @@ segment_of bytes h = record {
   bytes = take h.filesz (drop h.offset bytes);
 }
 
+-- the segment of a header without its bytes, which no test of the memory asks for
+abbrev pub frame : ProgramHeader → Segment
+frame h = segment_of [] h
+
 -- the program of a file
 abbrev pub program : List ℕ → Program
 program bytes = record { entry = e_entry bytes; segments = map (segment_of bytes) (loads bytes) }
@@ -72,38 +76,42 @@ abbrev pub is_short : List ℕ → Bool
 is_short bytes = nat_lt (length bytes) 64
 
 -- the first four bytes aren't 7F and `ELF`
-abbrev pub has_wrong_magic : List ℕ → Bool
+unfoldable pub has_wrong_magic : List ℕ → Bool
 has_wrong_magic bytes = not (starts_with nat_eq bytes (0x7F ∷ 0x45 ∷ 0x4C ∷ 0x46 ∷ []))
 
 -- not of 64 bits, not little-endian, or not of version 1
-abbrev pub has_wrong_class : List ℕ → Bool
+unfoldable pub has_wrong_class : List ℕ → Bool
 has_wrong_class bytes = not (class bytes == 2 && data_encoding bytes == 1 && ident_version bytes == 1)
 
 -- not an executable file
-abbrev pub has_wrong_kind : List ℕ → Bool
+unfoldable pub has_wrong_kind : List ℕ → Bool
 has_wrong_kind bytes = not (e_type bytes == 2)
 
 -- not for RISC-V
-abbrev pub has_wrong_machine : List ℕ → Bool
+unfoldable pub has_wrong_machine : List ℕ → Bool
 has_wrong_machine bytes = not (e_machine bytes == 243)
 
 -- a loaded header whose bytes in the file are more than those in memory, or pass the file's end
 abbrev pub has_wrong_size : List ℕ → ProgramHeader → Bool
 has_wrong_size bytes h = nat_lt h.memsz h.filesz || nat_lt (length bytes) (h.offset + h.filesz)
 
--- program headers that aren't of 56 bytes, none or more than 64 of them, a table of them that passes the
--- file's end, or a loaded one with wrong sizes
-abbrev pub has_wrong_headers : List ℕ → Bool
-has_wrong_headers bytes =
+-- program headers that aren't of 56 bytes, none or more than 64 of them, or a table of them that passes
+-- the file's end
+abbrev pub has_wrong_table : List ℕ → Bool
+has_wrong_table bytes =
     not (e_phentsize bytes == 56) || e_phnum bytes == 0 || nat_lt 64 (e_phnum bytes)
-    || nat_lt (length bytes) (e_phoff bytes + 56 * e_phnum bytes) || list_any (has_wrong_size bytes) (loads bytes)
+    || nat_lt (length bytes) (e_phoff bytes + 56 * e_phnum bytes)
+
+-- a wrong table, or a loaded header with wrong sizes
+unfoldable pub has_wrong_headers : List ℕ → Bool
+has_wrong_headers bytes = has_wrong_table bytes || list_any (has_wrong_size bytes) (loads bytes)
 
 -- some header is of a type: 2 is dynamic linking, 3 an interpreter, 7 thread-local storage
-abbrev pub has_kind : ℕ → List ℕ → Bool
+unfoldable pub has_kind : ℕ → List ℕ → Bool
 has_kind kind bytes = list_any (λ h. h.kind == kind) (headers bytes)
 
 -- a segment ends above 2^32, or the segments have more than 268,435,456 bytes in all
-abbrev pub reaches_too_far : List Segment → Bool
+unfoldable pub reaches_too_far : List Segment → Bool
 reaches_too_far segments =
     list_any (λ s. nat_lt (2 ^ 32) (segment_end s)) segments || nat_lt 268435456 (sum_by (λ s. s.memsz) segments)
 
@@ -113,38 +121,55 @@ overlaps [] = false
 overlaps (s ∷ rest) = list_any (share_byte s) rest || overlaps rest
 
 -- a segment can be both written and executed
-abbrev pub has_write_exec : List Segment → Bool
+unfoldable pub has_write_exec : List Segment → Bool
 has_write_exec segments = list_any (λ s. grants_write s && grants_execute s) segments
 
 -- the entry isn't a multiple of 4, or lies in no executable segment
-abbrev pub has_wrong_entry : Program → Bool
+unfoldable pub has_wrong_entry : Program → Bool
 has_wrong_entry p = not (p.entry % 4 == 0 && some_executes p p.entry)
 
--- the file header is as it must be
-abbrev pub has_file_header : List ℕ → Bool
-has_file_header bytes =
-    not (is_too_long bytes) && not (is_short bytes) && not (has_wrong_magic bytes) && not (has_wrong_class bytes)
-    && not (has_wrong_kind bytes) && not (has_wrong_machine bytes)
+-- a fault, and the test of the files that have it
+abbrev pub Refusal : Type 0
+Refusal = ImageFault × (List ℕ → Bool)
 
--- the program can be laid out in memory and started
-abbrev pub is_loadable : Program → Bool
-is_loadable p =
-    not (reaches_too_far p.segments) && not (overlaps p.segments) && not (has_write_exec p.segments)
-    && not (has_wrong_entry p)
+-- the refusals that the file header decides
+unfoldable pub header_refusals : List Refusal
+header_refusals =
+    (TooLong, is_too_long) ∷ (Short, is_short) ∷ (Magic, has_wrong_magic) ∷ (Class, has_wrong_class)
+    ∷ (Kind, has_wrong_kind) ∷ (Machine, has_wrong_machine) ∷ []
 
--- none of the refusals stands
-abbrev pub is_accepted : List ℕ → Bool
-is_accepted bytes =
-    has_file_header bytes && not (has_wrong_headers bytes) && not (has_kind 2 bytes) && not (has_kind 3 bytes)
-    && not (has_kind 7 bytes) && is_loadable (program bytes)
+-- those that the program headers decide
+unfoldable pub table_refusals : List Refusal
+table_refusals =
+    (Headers, has_wrong_headers) ∷ (Dynamic, has_kind 2) ∷ (Interp, has_kind 3) ∷ (Tls, has_kind 7) ∷ []
 
--- the file has one program header, and its flags are read and execute
-abbrev pub is_one_text : List ℕ → Bool
-is_one_text bytes = e_phnum bytes == 1 && number_at 4 (e_phoff bytes + 4) bytes == 5
+-- those that the program decides, once it is taken from the file
+unfoldable pub program_refusals : List Refusal
+program_refusals =
+    (Reach, (λ bytes. reaches_too_far (program bytes).segments)) ∷ (Overlap, (λ bytes. overlaps (program bytes).segments))
+    ∷ (WriteExec, (λ bytes. has_write_exec (program bytes).segments)) ∷ (Entry, (λ bytes. has_wrong_entry (program bytes))) ∷ []
+
+-- all refusals, in order
+abbrev pub refusals : List Refusal
+refusals = header_refusals ++ table_refusals ++ program_refusals
+
+-- the first fault of a list that a file has
+unfoldable pub first_of : List Refusal → List ℕ → Option ImageFault
+first_of [] bytes = None
+first_of (row ∷ rows) bytes = if row.1 bytes then Some row.0 else first_of rows bytes
+
+-- the first fault of a file, if it has one
+abbrev pub first_fault : List ℕ → Option ImageFault
+first_fault bytes = first_of refusals bytes
+
+-- a fault, or where there is none the program
+abbrev pub refused_or : Option ImageFault → Program → Result Program ImageFault
+refused_or (Some fault) p = Err fault
+refused_or None p = Ok p
 
 -- the program of a file, or why it is refused
 abbrev pub image_of : List ℕ → Result Program ImageFault
-image_of bytes = if is_accepted bytes && is_one_text bytes then Ok (program bytes) else Err Form
+image_of bytes = refused_or (first_fault bytes) (program bytes)
 
 -- what reading a file answers: what the file holds, or that memory ran out
 abbrev pub Reads : Result Program ImageRefusal → Result Program ImageFault → Type 0
@@ -161,6 +186,7 @@ pub record IsSegment (s : Segment) : Type 0 where
 
 -- what is known of every image
 pub record IsProgram (p : Program) : Type 0 where
+  pub few : length p.segments ≤ 64
   pub each : All IsSegment p.segments
   pub size : sum_by (λ s. s.memsz) p.segments ≤ 268435456
   pub apart : overlaps p.segments ≡ false

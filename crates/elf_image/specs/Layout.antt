@@ -80,6 +80,10 @@ byte_of s address = slice_index s.bytes (address - s.vaddr)
 abbrev pub start_byte : Setup → ℕ → ℕ
 start_byte w address = option_map_or (λ s. byte_of s address) (find (λ s. holds s address) w.image.segments) 0
 
+-- the 64 bytes of a line before the program runs: line number n has the addresses from 64 * n on
+unfoldable pub initial_line : Setup → ℕ → List ℕ
+initial_line w line = map (λ place. start_byte w (line * 64 + place)) (range_with_len 0 64)
+
 -- whether a segment has the four bytes at an address
 abbrev pub holds_word : Segment → ℕ → Bool
 holds_word s address = list_all (holds s) (range_with_len address 4)

@@ -1,4 +1,4 @@
+pub mod File
 pub mod Header
 pub mod Image
 pub mod Layout
-pub mod OneText

@@ -1,7 +1,7 @@
 ghost use Rattle.std.specs.Prelude.{◌≡◌, ◌+◌, ◌^◌, ◌<◌, ◌≤◌, All};
 ghost use Rattle.std.specs.Bool.{OnTrue};
 ghost use Rattle.elf_image.specs.Image.{IsSegment, IsProgram};
-ghost use Rattle.elf_image.specs.Layout.{heap_bytes, layout_of, IsLaidOut, stack_end, last_end, is_free, is_readable, is_writable, has_right, may, start_byte, fetch};
+ghost use Rattle.elf_image.specs.Layout.{heap_bytes, layout_of, IsLaidOut, stack_end, last_end, is_free, is_readable, is_writable, has_right, may, start_byte, initial_line, fetch};
 
 use crate::program::{Image, Segment};
 use byteorder::{ByteOrder, LittleEndian};
@@ -15,6 +15,12 @@ pub const STACK_BYTES: u64 = 65_536;
 
 /// How many bytes lie between the heap window and the stack, and what the heap's start is a multiple of.
 const PAGE: u64 = 4096;
+
+/// How many bytes a line has.
+const LINE_BYTES: u64 = 64;
+
+/// The first line past those of 32-bit addresses.
+const LINE_END: u64 = (1 << 32) / LINE_BYTES;
 
 /// Where the heap window and the stack lie.
 #[derive(Clone, Copy, Debug, PartialEq, Eq)]
@@ -107,6 +113,22 @@ impl World {
             Some(segment) => segment.start_byte(addr),
             None => 0,
         }
+    }
+
+    /// The 64 bytes of a line before the program runs. Line number `n` has the addresses from `64 * n` on,
+    /// and each byte is the segment's that has it, and 0 where none has.
+    pub fn initial_line(&self, line: u64) -> [u8; 64]
+        ensures { result ≡ initial_line self.now line }
+    {
+        // The layout's bounds say that no segment has an address from 2^32 on.
+        let _ = &self.layout;
+        let mut bytes = [0; 64];
+        if line < LINE_END {
+            for place in 0..64 {
+                bytes[place] = self.start_byte(line * LINE_BYTES + place as u64);
+            }
+        }
+        bytes
     }
 
     /// The instruction word at an address, if one executable segment has its four bytes.

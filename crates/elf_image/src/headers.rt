@@ -1,22 +1,16 @@
-ghost use Rattle.std.specs.Prelude.{◌≡◌, ◌+◌, ◌≤◌, ◌&&◌, not, length};
-ghost use Rattle.std.specs.Bool.{OnTrue};
-ghost use Rattle.elf_image.specs.Header.{e_entry, e_phoff, header_from};
-ghost use Rattle.elf_image.specs.Image.{has_file_header, has_wrong_magic, has_wrong_class};
-ghost use Rattle.elf_image.specs.OneText.{has_one_header, is_text, has_room, has_entry};
+ghost use Rattle.std.specs.Prelude.{◌≡◌, ◌+◌, ◌*◌, ◌≤◌, ◌&&◌, ◌==◌, ◌^◌, nat_lt, length, filter, IfOk};
+ghost use Rattle.elf_image.specs.Header.{e_entry, e_phoff, e_phnum, header_from, headers};
+ghost use Rattle.elf_image.specs.Image.{has_wrong_size, frame, segment_end, holds, share_byte, grants_write, grants_execute};
 
 use byteorder::{ByteOrder, LittleEndian};
+use sim_base::NoMemory;
+use std::alloc::Global;
 
-/// The greatest length of a file, in bytes.
-pub const FILE_LIMIT: usize = 16_777_216;
-
-/// The length of the file header, in bytes.
-const FILE_HEADER: usize = 64;
+/// The first address past those that a segment may have: 2^32.
+const ADDRESS_END: u64 = 1 << 32;
 
 /// The length of a program header, in bytes.
-const PROGRAM_HEADER: u16 = 56;
-
-/// The machine number of RISC-V.
-const RISC_V: u16 = 243;
+const PROGRAM_HEADER: usize = 56;
 
 /// The fields of a program header that are read, by the System V ABI.
 #[derive(Clone, Copy)]
@@ -37,6 +31,7 @@ pub struct ProgramHeader {
 
 impl ProgramHeader {
     /// The program header at a place of a file.
+    #[tactic(auto, unfolding(crate::specs::Header::header_from))]
     pub fn read(bytes: &[u8], at: usize) -> ProgramHeader
         requires { at + 56 ≤ length bytes.now }
         ensures { result ≡ header_from bytes.now at }
@@ -51,53 +46,60 @@ impl ProgramHeader {
         }
     }
 
-    /// Whether it is loaded, and can be read and executed and no more.
-    pub fn is_text(&self) -> bool
-        ensures { result ≡ is_text self.now }
+    /// Whether it is loaded into memory.
+    pub fn is_loaded(&self) -> bool
+        ensures { result ≡ (self.now.kind == 1) }
     {
-        self.kind == 1 && self.flags == 5
+        self.kind == 1
     }
 
-    /// Whether its bytes lie in a file of `len` bytes, and its memory has room for them and is neither too
-    /// large nor too high.
-    pub fn has_room(&self, len: u64) -> bool
-        ensures { result ≡ has_room len self.now }
+    /// Whether it has more bytes in the file than in memory, or some past the file's end.
+    pub fn has_wrong_size(&self, bytes: &[u8]) -> bool
+        ensures { result ≡ has_wrong_size bytes.now self.now }
     {
-        let in_file = self.filesz <= len && self.offset <= len - self.filesz;
-        let in_memory = self.memsz <= 268_435_456 && self.vaddr <= (1 << 32) - self.memsz;
-        self.filesz <= self.memsz && in_file && in_memory
+        let len = bytes.len() as u64;
+        self.memsz < self.filesz || self.filesz > len || self.offset > len - self.filesz
     }
 
-    /// Whether an entry is a multiple of 4 in its memory.
-    pub fn has_entry(&self, entry: u64) -> bool
-        ensures { result ≡ has_entry entry self.now }
+    /// Whether its memory ends above 2^32.
+    pub fn ends_too_high(&self) -> bool
+        ensures { result ≡ nat_lt (2 ^ 32) (segment_end (frame self.now)) }
     {
-        entry % 4 == 0 && self.vaddr <= entry && entry - self.vaddr < self.memsz
+        self.memsz > ADDRESS_END || self.vaddr > ADDRESS_END - self.memsz
     }
-}
 
-/// Whether the file header is that of a RISC-V program, and the file isn't too long.
-pub fn has_file_header(bytes: &[u8]) -> bool
-    ensures value { result ≡ has_file_header bytes.now }
-    ensures room { OnTrue result (64 ≤ length bytes.now) }
-{
-    if bytes.len() > FILE_LIMIT || bytes.len() < FILE_HEADER {
-        return false;
+    /// Whether an address lies in its memory.
+    pub fn holds(&self, address: u64) -> bool
+        ensures { result ≡ holds (frame self.now) address }
+    {
+        self.vaddr <= address && address - self.vaddr < self.memsz
     }
-    let kind = LittleEndian::read_u16(&bytes[16..]);
-    let machine = LittleEndian::read_u16(&bytes[18..]);
-    is_identified(bytes) && kind == 2 && machine == RISC_V
-}
 
-/// Whether the first bytes are those of an ELF file of 64 bits, little-endian, of version 1.
-fn is_identified(bytes: &[u8]) -> bool
-    requires { 64 ≤ length bytes.now }
-    ensures { result ≡ (not (has_wrong_magic bytes.now) && not (has_wrong_class bytes.now)) }
-{
-    bytes.starts_with(b"\x7fELF") && bytes[4] == 2 && bytes[5] == 1 && bytes[6] == 1
+    /// Whether some address lies in the memory of both: then the later of the starts does.
+    pub fn shares_byte(&self, other: &ProgramHeader) -> bool
+        ensures { result ≡ share_byte (frame self.now) (frame other.now) }
+    {
+        let start = self.vaddr.max(other.vaddr);
+        self.holds(start) && other.holds(start)
+    }
+
+    /// Whether its memory may be executed.
+    pub fn is_executable(&self) -> bool
+        ensures { result ≡ grants_execute (frame self.now) }
+    {
+        self.flags % 2 == 1
+    }
+
+    /// Whether its memory may be both written and executed.
+    pub fn is_written_and_executed(&self) -> bool
+        ensures { result ≡ (grants_write (frame self.now) && grants_execute (frame self.now)) }
+    {
+        self.flags / 2 % 2 == 1 && self.flags % 2 == 1
+    }
 }
 
 /// The address of the first instruction.
+#[tactic(auto, unfolding(crate::specs::Header::e_entry))]
 pub fn entry_of(bytes: &[u8]) -> u64
     requires { 64 ≤ length bytes.now }
     ensures { result ≡ e_entry bytes.now }
@@ -106,6 +108,7 @@ pub fn entry_of(bytes: &[u8]) -> u64
 }
 
 /// Where the program headers stand in the file.
+#[tactic(auto, unfolding(crate::specs::Header::e_phoff))]
 pub fn table_offset(bytes: &[u8]) -> u64
     requires { 64 ≤ length bytes.now }
     ensures { result ≡ e_phoff bytes.now }
@@ -113,14 +116,39 @@ pub fn table_offset(bytes: &[u8]) -> u64
     LittleEndian::read_u64(&bytes[32..])
 }
 
-/// Whether there is one program header, which ends within the file.
-pub fn has_one_header(bytes: &[u8]) -> bool
+/// How many program headers there are.
+#[tactic(auto, unfolding(crate::specs::Header::e_phnum))]
+pub fn header_count(bytes: &[u8]) -> u16
     requires { 64 ≤ length bytes.now }
-    ensures value { result ≡ has_one_header bytes.now }
-    ensures room { OnTrue result (e_phoff bytes.now + 56 ≤ length bytes.now) }
+    ensures { result ≡ e_phnum bytes.now }
 {
-    let size = LittleEndian::read_u16(&bytes[54..]);
-    let count = LittleEndian::read_u16(&bytes[56..]);
-    let last = bytes.len() - PROGRAM_HEADER as usize;
-    size == PROGRAM_HEADER && count == 1 && table_offset(bytes) <= last as u64
+    LittleEndian::read_u16(&bytes[56..])
+}
+
+/// The program headers of a file that has the whole table.
+pub fn read_headers(alloc: Global, bytes: &[u8]) -> Result<Vec<ProgramHeader>, NoMemory>
+    requires header { 64 ≤ length bytes.now }
+    requires table { e_phoff bytes.now + 56 * e_phnum bytes.now ≤ length bytes.now }
+    ensures { IfOk result (λ table. table.items ≡ headers bytes.now) }
+{
+    let offset = table_offset(bytes) as usize;
+    let count = header_count(bytes) as usize;
+    let mut table = Vec::with_capacity(alloc, count)?;
+    for number in 0..count {
+        table.push(ProgramHeader::read(bytes, offset + PROGRAM_HEADER * number))?;
+    }
+    Ok(table)
+}
+
+/// The headers of what is loaded into memory.
+pub fn loads_of(alloc: Global, table: &[ProgramHeader]) -> Result<Vec<ProgramHeader>, NoMemory>
+    ensures { IfOk result (λ loaded. loaded.items ≡ filter (λ h. h.kind == 1) table.now) }
+{
+    let mut loaded = Vec::new(alloc);
+    for header in table {
+        if header.is_loaded() {
+            loaded.push(*header)?;
+        }
+    }
+    Ok(loaded)
 }

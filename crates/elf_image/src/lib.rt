@@ -3,16 +3,19 @@
 #![tactic(auto)]
 
 mod address_map;
+mod faults;
 mod headers;
 mod program;
 mod reading;
 mod refusal;
+mod writing;
 
 pub use address_map::{HEAP_BYTES, Layout, Right, STACK_BYTES, World};
-pub use headers::FILE_LIMIT;
+pub use faults::FILE_LIMIT;
 pub use program::{Image, Segment};
 pub use reading::read_image;
 pub use refusal::{ImageFault, ImageRefusal};
+pub use writing::{file_size, write_image};
 
 #[cfg(test)]
 mod tests;

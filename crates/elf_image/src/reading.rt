@@ -1,51 +1,87 @@
-ghost use Rattle.std.specs.Prelude.{◌≡◌, ◌+◌, ◌≤◌, if◌then◌else◌, length, IfOk, IfSome};
-ghost use Rattle.elf_image.specs.Image.{image_of, segment_of, Reads};
-ghost use Rattle.elf_image.specs.OneText.{is_text_file, only_header};
+ghost use Rattle.std.specs.Prelude.{◌≡◌, ◌+◌, ◌≤◌, false, ◌++◌, length, map, Some, None, All, IfOk, IfErr, OnOk};
+ghost use Rattle.elf_image.specs.declared.refusal.ImageFault.{ImageFault};
+ghost use Rattle.elf_image.specs.declared.refusal.ImageRefusal.TheVariants.{Bad};
+ghost use Rattle.elf_image.specs.Header.{headers, loads};
+ghost use Rattle.elf_image.specs.Image.{image_of, first_fault, first_of, table_refusals, program_refusals, has_wrong_table, segment_of, Reads};
 
-use crate::headers::{ProgramHeader, entry_of, has_file_header, has_one_header, table_offset};
+use crate::faults::{has_wrong_load, has_wrong_table, header_fault, kind_fault, program_fault};
+use crate::headers::{ProgramHeader, entry_of, loads_of, read_headers};
 use crate::program::{Image, Segment};
 use crate::refusal::{ImageFault, ImageRefusal};
 use sim_base::{Bytes, NoMemory};
 use std::alloc::Global;
 
-/// Reads the image of an ELF64 file, whose fields are little-endian, by the System V ABI. Refuses a file
-/// that isn't a program of this simulator's, and so far also one with other than one program header or
-/// with other flags than read and execute.
+/// Reads the image of an ELF64 file, whose fields are little-endian, by the System V ABI. A file that
+/// isn't a program of this simulator's is refused with the first fault that it has.
 pub fn read_image(alloc: Global, bytes: &[u8]) -> Result<Image, ImageRefusal>
     ensures { Reads result (image_of bytes.now) }
 {
-    let Some(header) = text_header(bytes) else {
-        return Err(ImageRefusal::Bad {
-            fault: ImageFault::Form,
-        });
-    };
-    let segment = text_segment(alloc, bytes, &header)?;
-    let mut segments = Vec::with_capacity(alloc, 1)?;
-    segments.push(segment)?;
+    let loaded = read_loads(alloc, bytes)?;
+    let segments = read_segments(alloc, bytes, loaded.as_slice())?;
     Ok(Image::from_parts(entry_of(bytes), segments))
 }
 
-/// The one program header of a file that is taken, or none of one that is refused.
-fn text_header(bytes: &[u8]) -> Option<ProgramHeader>
-    ensures value { result ≡ (if is_text_file bytes.now then Some (only_header bytes.now) else None) }
-    ensures room { IfSome result (λ h. (64 ≤ length bytes.now) × (h.offset + h.filesz ≤ length bytes.now)) }
+/// The loaded headers of a file that is taken, or why it is refused.
+fn read_loads(alloc: Global, bytes: &[u8]) -> Result<Vec<ProgramHeader>, ImageRefusal>
+    ensures value { IfOk result (λ loaded. loaded.items ≡ loads bytes.now) }
+    ensures room { OnOk result (64 ≤ length bytes.now) }
+    ensures taken { OnOk result (first_fault bytes.now ≡ None) }
+    ensures refused { IfErr result (λ e. (fault : ImageFault) → e ≡ Bad fault → first_fault bytes.now ≡ Some fault) }
 {
-    if !has_file_header(bytes) || !has_one_header(bytes) {
-        return None;
+    if let Some(fault) = header_fault(bytes) {
+        return Err(ImageRefusal::Bad { fault });
     }
-    let header = ProgramHeader::read(bytes, table_offset(bytes) as usize);
-    if header.is_text()
-        && header.has_room(bytes.len() as u64)
-        && header.has_entry(entry_of(bytes))
-    {
-        Some(header)
-    } else {
-        None
+    if has_wrong_table(bytes) {
+        let fault = ImageFault::Headers;
+        return Err(ImageRefusal::Bad { fault });
+    }
+    let table = read_headers(alloc, bytes)?;
+    let loaded = loads_of(alloc, table.as_slice())?;
+    match table_fault(bytes, table.as_slice(), loaded.as_slice()) {
+        Some(fault) => Err(ImageRefusal::Bad { fault }),
+        None => Ok(loaded),
     }
 }
 
+/// The first fault of a file whose file header and table have none.
+fn table_fault(
+    bytes: &[u8],
+    table: &[ProgramHeader],
+    loaded: &[ProgramHeader],
+) -> Option<ImageFault>
+    requires room { 64 ≤ length bytes.now }
+    requires right { has_wrong_table bytes.now ≡ false }
+    requires table { table.now ≡ headers bytes.now }
+    requires loaded { loaded.now ≡ loads bytes.now }
+    ensures { result ≡ first_of (table_refusals ++ program_refusals) bytes.now }
+{
+    if has_wrong_load(bytes, loaded) {
+        return Some(ImageFault::Headers);
+    }
+    if let Some(fault) = kind_fault(table) {
+        return Some(fault);
+    }
+    program_fault(entry_of(bytes), loaded)
+}
+
+/// The segments of loaded headers.
+fn read_segments(
+    alloc: Global,
+    bytes: &[u8],
+    loaded: &[ProgramHeader],
+) -> Result<Vec<Segment>, NoMemory>
+    requires { All (λ h. h.offset + h.filesz ≤ length bytes.now) loaded.now }
+    ensures { IfOk result (λ segments. segments.items ≡ map (segment_of bytes.now) loaded.now) }
+{
+    let mut segments = Vec::with_capacity(alloc, loaded.len())?;
+    for header in loaded {
+        segments.push(read_segment(alloc, bytes, header)?)?;
+    }
+    Ok(segments)
+}
+
 /// The segment of a program header.
-fn text_segment(alloc: Global, bytes: &[u8], header: &ProgramHeader) -> Result<Segment, NoMemory>
+fn read_segment(alloc: Global, bytes: &[u8], header: &ProgramHeader) -> Result<Segment, NoMemory>
     requires { header.now.offset + header.now.filesz ≤ length bytes.now }
     ensures { IfOk result (λ segment. segment ≡ segment_of bytes.now header.now) }
 {

@@ -4,11 +4,38 @@ ghost use Rattle.std.specs.Prelude.{◌≡◌};
 use sim_base::NoMemory;
 use std::alloc::{AllocError, AllocFailed};
 
-/// Why a file is no image. `Form` stands for every reason so far.
+/// Why a file is no image, by this simulator's own rules. The first that stands counts.
 #[derive(Clone, Copy, Debug, PartialEq, Eq)]
 pub enum ImageFault {
-    /// The file isn't an ELF64 program of one readable and executable segment.
-    Form,
+    /// It has more than 16,777,216 bytes.
+    TooLong,
+    /// It has fewer bytes than the file header, which has 64.
+    Short,
+    /// Its first four bytes aren't those of an ELF file.
+    Magic,
+    /// It isn't of 64 bits, little-endian or of version 1.
+    Class,
+    /// It isn't an executable file.
+    Kind,
+    /// It isn't for RISC-V.
+    Machine,
+    /// Its program headers aren't of 56 bytes, are none or more than 64, or pass the file's end, or one
+    /// that is loaded has more bytes in the file than in memory, or some past the file's end.
+    Headers,
+    /// A header asks for dynamic linking.
+    Dynamic,
+    /// A header asks for an interpreter.
+    Interp,
+    /// A header asks for thread-local storage.
+    Tls,
+    /// A segment ends above 2^32, or the segments have more than 268,435,456 bytes of memory in all.
+    Reach,
+    /// Two segments share a byte.
+    Overlap,
+    /// A segment can be both written and executed.
+    WriteExec,
+    /// The entry isn't a multiple of 4, or lies in no executable segment.
+    Entry,
 }
 
 /// Why a file gave no image.

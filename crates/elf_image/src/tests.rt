@@ -1,36 +1,57 @@
-use crate::{Image, ImageFault, ImageRefusal, Right, World, read_image};
+use crate::{Image, ImageFault, ImageRefusal, Right, World, file_size, read_image, write_image};
 use std::alloc::{AllocError, Global};
 use std::test::Fail;
 
-/// The file header and one program header, by the System V ABI: a segment of 300 bytes in the file and
-/// 304 in memory from 0x10000, read and executed, and the entry 0x10120.
-const HEADERS: [u8; 120] = [
+/// The headers of a program as a linker lays it out, by the System V ABI: the code with the headers
+/// themselves, read and executed from 0x10000 on, and 4 bytes of data with 16 zeros after them, read and
+/// written from 0x11000 on. The entry is 0x10120.
+const HEADERS: [u8; 288] = [
     0x7F, 0x45, 0x4C, 0x46, 2, 1, 1, 0, 0, 0, 0, 0, 0, 0, 0, 0, // e_ident
     2, 0, 0xF3, 0, 1, 0, 0, 0, // e_type, e_machine, e_version
     0x20, 0x01, 0x01, 0, 0, 0, 0, 0, // e_entry
     64, 0, 0, 0, 0, 0, 0, 0, // e_phoff
     0, 0, 0, 0, 0, 0, 0, 0, // e_shoff
-    0, 0, 0, 0, 64, 0, 56, 0, 1, 0, 0, 0, 0, 0, 0, 0, // e_flags to e_shstrndx
-    1, 0, 0, 0, 5, 0, 0, 0, // p_type, p_flags
+    0, 0, 0, 0, 64, 0, 56, 0, 4, 0, 0, 0, 0, 0, 0, 0, // e_flags to e_shstrndx
+    3, 0, 0, 0x70, 4, 0, 0, 0, // 64: attributes of RISC-V, p_flags
+    0x30, 0x01, 0, 0, 0, 0, 0, 0, // p_offset
+    0, 0, 0, 0, 0, 0, 0, 0, // p_vaddr
+    0, 0, 0, 0, 0, 0, 0, 0, // p_paddr
+    0x40, 0, 0, 0, 0, 0, 0, 0, // p_filesz, more than p_memsz
+    0, 0, 0, 0, 0, 0, 0, 0, // p_memsz
+    1, 0, 0, 0, 0, 0, 0, 0, // p_align
+    1, 0, 0, 0, 5, 0, 0, 0, // 120: the code
     0, 0, 0, 0, 0, 0, 0, 0, // p_offset
     0, 0, 0x01, 0, 0, 0, 0, 0, // p_vaddr
     0, 0, 0x01, 0, 0, 0, 0, 0, // p_paddr
     0x2C, 0x01, 0, 0, 0, 0, 0, 0, // p_filesz
-    0x30, 0x01, 0, 0, 0, 0, 0, 0, // p_memsz
-    1, 0, 0, 0, 0, 0, 0, 0, // p_align
+    0x2C, 0x01, 0, 0, 0, 0, 0, 0, // p_memsz
+    0, 0x10, 0, 0, 0, 0, 0, 0, // p_align
+    1, 0, 0, 0, 6, 0, 0, 0, // 176: the data
+    0x2C, 0x01, 0, 0, 0, 0, 0, 0, // p_offset
+    0, 0x10, 0x01, 0, 0, 0, 0, 0, // p_vaddr
+    0, 0x10, 0x01, 0, 0, 0, 0, 0, // p_paddr
+    4, 0, 0, 0, 0, 0, 0, 0, // p_filesz
+    0x14, 0, 0, 0, 0, 0, 0, 0, // p_memsz
+    0, 0x10, 0, 0, 0, 0, 0, 0, // p_align
+    0x51, 0xE5, 0x74, 0x64, 6, 0, 0, 0, // 232: the stack's flags
+    0, 0, 0, 0, 0, 0, 0, 0, // p_offset
+    0, 0, 0, 0, 0, 0, 0, 0, // p_vaddr
+    0, 0, 0, 0, 0, 0, 0, 0, // p_paddr
+    0, 0, 0, 0, 0, 0, 0, 0, // p_filesz
+    0, 0, 0, 0, 0, 0, 0, 0, // p_memsz
+    16, 0, 0, 0, 0, 0, 0, 0, // p_align
 ];
 
-/// The bytes from 288 on: addi a7,x0,93; addi a0,x0,0; ecall.
-const CODE: [u8; 12] = [
-    0x93, 0x08, 0xD0, 0x05, 0x13, 0x05, 0x00, 0x00, 0x73, 0x00, 0x00, 0x00,
+/// The bytes from 288 on: addi a7,x0,93; addi a0,x0,0; ecall; and four bytes of data.
+const CONTENT: [u8; 16] = [
+    0x93, 0x08, 0xD0, 0x05, 0x13, 0x05, 0x00, 0x00, 0x73, 0x00, 0x00, 0x00, 1, 2, 3, 4,
 ];
 
-/// The file of 300 bytes with some bytes changed.
+/// The file of 304 bytes with some bytes changed.
 fn file_with(alloc: Global, changes: &[(usize, u8)]) -> Result<Vec<u8>, AllocError> {
     let mut file = Vec::new(alloc);
     file.extend_from_slice(&HEADERS)?;
-    file.extend_from_slice(&[0; 168])?;
-    file.extend_from_slice(&CODE)?;
+    file.extend_from_slice(&CONTENT)?;
     for (place, byte) in changes {
         if let Some(slot) = file.get_mut(*place) {
             *slot = *byte;
@@ -53,25 +74,18 @@ fn plain_image(alloc: Global) -> Result<Image, Fail> {
 
 #[test]
 fn takes_the_file_and_its_limits(rt: HostRuntime) -> Result<(), Fail> {
-    let rows: [(&str, &[(usize, u8)]); 4] = [
+    let rows: [(&str, &[(usize, u8)]); 6] = [
         ("as it is", &[]),
-        ("the entry at the last word", &[(24, 0x2C)]),
+        ("e_flags 5", &[(48, 5)]),
+        ("the entry at the last word", &[(24, 0x28)]),
+        ("flags above the low three", &[(127, 0x80)]),
         (
-            "memory that ends at 2^32",
-            &[
-                (80, 0xD0),
-                (81, 0xFE),
-                (82, 0xFF),
-                (83, 0xFF),
-                (24, 0xF0),
-                (25, 0xFF),
-                (26, 0xFF),
-                (27, 0xFF),
-            ],
+            "the data right after the code",
+            &[(192, 0x2C), (193, 0x01), (194, 0x01)],
         ),
         (
             "268,435,456 bytes of memory",
-            &[(104, 0), (105, 0), (107, 0x10)],
+            &[(216, 0xD4), (217, 0xFE), (218, 0xFF), (219, 0x0F)],
         ),
     ];
     for (name, changes) in rows {
@@ -82,71 +96,211 @@ fn takes_the_file_and_its_limits(rt: HostRuntime) -> Result<(), Fail> {
 
 #[test]
 fn refuses_each_single_change(rt: HostRuntime) -> Result<(), Fail> {
-    let rows: [(&str, &[(usize, u8)]); 21] = [
-        ("magic", &[(0, 0x7E)]),
-        ("of 32 bits", &[(4, 1)]),
-        ("big-endian", &[(5, 2)]),
-        ("version 0", &[(6, 0)]),
-        ("shared object", &[(16, 3)]),
-        ("machine x86-64", &[(18, 62)]),
-        ("headers of 57 bytes", &[(54, 57)]),
-        ("no program header", &[(56, 0)]),
-        ("two program headers", &[(56, 2)]),
-        ("the table passes the end", &[(32, 245)]),
-        ("a dynamic segment", &[(64, 2)]),
-        ("written and executed", &[(68, 7)]),
-        ("a flag bit above the three", &[(71, 0x80)]),
-        ("only read", &[(68, 4)]),
-        ("the entry is odd by 2", &[(24, 0x22)]),
-        ("the entry is past the memory", &[(24, 0x30)]),
-        ("the entry is below the memory", &[(26, 0)]),
-        ("less memory than bytes", &[(104, 0x2B)]),
-        ("bytes past the end", &[(72, 1)]),
-        ("memory above 2^32", &[(84, 1), (28, 1)]),
+    let rows: [(&str, &[(usize, u8)], ImageFault); 24] = [
+        ("magic", &[(0, 0)], ImageFault::Magic),
+        ("of 32 bits", &[(4, 1)], ImageFault::Class),
+        ("big-endian", &[(5, 2)], ImageFault::Class),
+        ("version 0", &[(6, 0)], ImageFault::Class),
+        ("shared object", &[(16, 3)], ImageFault::Kind),
+        ("machine x86-64", &[(18, 62)], ImageFault::Machine),
+        ("headers of 57 bytes", &[(54, 57)], ImageFault::Headers),
+        ("no program header", &[(56, 0)], ImageFault::Headers),
+        ("65 program headers", &[(56, 65)], ImageFault::Headers),
+        ("the table passes the end", &[(32, 81)], ImageFault::Headers),
+        (
+            "more bytes than memory",
+            &[(208, 5), (216, 4)],
+            ImageFault::Headers,
+        ),
+        ("bytes past the end", &[(184, 0x2D)], ImageFault::Headers),
+        (
+            "dynamic",
+            &[(232, 2), (233, 0), (234, 0), (235, 0)],
+            ImageFault::Dynamic,
+        ),
+        (
+            "interpreter",
+            &[(232, 3), (233, 0), (234, 0), (235, 0)],
+            ImageFault::Interp,
+        ),
+        (
+            "thread-local",
+            &[(232, 7), (233, 0), (234, 0), (235, 0)],
+            ImageFault::Tls,
+        ),
+        (
+            "data of 2^32 bytes",
+            &[(216, 0), (220, 1)],
+            ImageFault::Reach,
+        ),
         (
             "268,435,457 bytes of memory",
-            &[(104, 1), (105, 0), (107, 0x10)],
+            &[(216, 0xD5), (217, 0xFE), (218, 0xFF), (219, 0x0F)],
+            ImageFault::Reach,
         ),
+        ("both at 0x10000", &[(193, 0)], ImageFault::Overlap),
+        (
+            "the data at the code's last byte",
+            &[(192, 0x2B), (193, 0x01)],
+            ImageFault::Overlap,
+        ),
+        ("code that is written", &[(124, 7)], ImageFault::WriteExec),
+        ("the entry is odd by 2", &[(24, 0x22)], ImageFault::Entry),
+        (
+            "the entry is past the code",
+            &[(24, 0x2C)],
+            ImageFault::Entry,
+        ),
+        (
+            "the entry is in the data",
+            &[(24, 0), (25, 0x10)],
+            ImageFault::Entry,
+        ),
+        ("no code is executable", &[(124, 4)], ImageFault::Entry),
     ];
-    for (name, changes) in rows {
+    for (name, changes, fault) in rows {
         let refusal = refusal_of(rt.alloc(), changes)?;
-        assert_eq!(rt;
-            refusal,
-            Some(ImageRefusal::Bad {
-                fault: ImageFault::Form
-            }),
-            "{name}"
-        );
+        assert_eq!(rt; refusal, Some(ImageRefusal::Bad { fault }), "{name}");
     }
     Ok(())
 }
 
 #[test]
-fn refuses_the_first_119_bytes(rt: HostRuntime) -> Result<(), Fail> {
-    let alloc = rt.alloc();
-    let file = file_with(alloc, &[])?;
-    let (front, _rest) = file.as_slice().split_at_checked(119).ok_or("119")?;
-    let refusal = read_image(alloc, front).err();
-    assert_eq!(rt;
-        refusal,
-        Some(ImageRefusal::Bad {
-            fault: ImageFault::Form
-        })
-    );
+fn names_the_first_of_two_faults(rt: HostRuntime) -> Result<(), Fail> {
+    let rows: [(&str, &[(usize, u8)], ImageFault); 4] = [
+        ("magic and class", &[(0, 0), (4, 1)], ImageFault::Magic),
+        (
+            "thread-local before dynamic in the file",
+            &[(64, 7), (67, 0), (232, 2), (233, 0), (234, 0), (235, 0)],
+            ImageFault::Dynamic,
+        ),
+        (
+            "overlapping, and written code",
+            &[(193, 0), (124, 7)],
+            ImageFault::Overlap,
+        ),
+        (
+            "written code, and a wrong entry",
+            &[(124, 7), (24, 0x22)],
+            ImageFault::WriteExec,
+        ),
+    ];
+    for (name, changes, fault) in rows {
+        let refusal = refusal_of(rt.alloc(), changes)?;
+        assert_eq!(rt; refusal, Some(ImageRefusal::Bad { fault }), "{name}");
+    }
     Ok(())
 }
 
 #[test]
-fn holds_the_segment(rt: HostRuntime) -> Result<(), Fail> {
+fn refuses_by_length(rt: HostRuntime) -> Result<(), Fail> {
+    let alloc = rt.alloc();
+    let rows = [
+        (0, ImageFault::Short),
+        (63, ImageFault::Short),
+        (287, ImageFault::Headers),
+        (303, ImageFault::Headers),
+        (16_777_217, ImageFault::TooLong),
+    ];
+    for (len, fault) in rows {
+        let mut file = file_with(alloc, &[])?;
+        file.resize(len, 0)?;
+        let refusal = read_image(alloc, file.as_slice()).err();
+        assert_eq!(rt; refusal, Some(ImageRefusal::Bad { fault }), "{len}");
+    }
+    Ok(())
+}
+
+#[test]
+fn holds_the_segments(rt: HostRuntime) -> Result<(), Fail> {
     let image = plain_image(rt.alloc())?;
     assert_eq!(rt; image.entry(), 0x10120);
-    assert_eq!(rt; image.segments().len(), 1);
-    let segment = image.segments().first().ok_or("one")?;
-    assert_eq!(rt;
-        (segment.vaddr, segment.memsz, segment.flags),
-        (0x10000, 304, 5)
-    );
-    assert_eq!(rt; segment.bytes.len(), 300);
+    let rows = [(0x10000, 300, 5, 300), (0x11000, 20, 6, 4)];
+    assert_eq!(rt; image.segments().len(), 2);
+    for (segment, (vaddr, memsz, flags, len)) in image.segments().iter().zip(rows) {
+        assert_eq!(rt;
+            (segment.vaddr, segment.memsz, segment.flags),
+            (vaddr, memsz, flags)
+        );
+        assert_eq!(rt; segment.bytes.len(), len);
+    }
+    Ok(())
+}
+
+/// The program as it is written: the entry is kept, and the two segments stand one after the other.
+#[test]
+fn writes_a_file_that_reads_back(rt: HostRuntime) -> Result<(), Fail> {
+    let alloc = rt.alloc();
+    let image = plain_image(alloc)?;
+    if file_size(&image) > 16_777_216 {
+        return Err("too long".into());
+    }
+    let file = write_image(alloc, &image).ok().ok_or("memory")?;
+    assert_eq!(rt; file.len(), 64 + 2 * 56 + 300 + 4);
+    let places = [
+        (18, 0xF3),
+        (20, 1),
+        (25, 0x01),
+        (32, 64),
+        (48, 0),
+        (52, 64),
+        (54, 56),
+        (56, 2),
+        (64, 1),
+        (68, 5),
+        (72, 176),
+        (90, 0x01),
+        (112, 1),
+        (124, 6),
+        (128, 220),
+        (129, 1),
+        (137, 0x10),
+        (145, 0x10),
+        (152, 4),
+        (160, 0x14),
+        (176, 0x7F),
+        (476, 1),
+        (479, 4),
+    ];
+    for (place, byte) in places {
+        assert_eq!(rt; file.as_slice().get(place).copied(), Some(byte), "{place}");
+    }
+    let again = read_image(alloc, file.as_slice())?;
+    assert_eq!(rt; again.entry(), image.entry());
+    assert_eq!(rt; again.segments().len(), 2);
+    for (one, other) in again.segments().iter().zip(image.segments()) {
+        assert_eq!(rt;
+            (one.vaddr, one.memsz, one.flags),
+            (other.vaddr, other.memsz, other.flags)
+        );
+        assert!(rt; one.bytes.as_slice() == other.bytes.as_slice());
+    }
+    Ok(())
+}
+
+#[test]
+fn gives_a_line_before_the_program_runs(rt: HostRuntime) -> Result<(), Fail> {
+    let world = World::new(plain_image(rt.alloc())?);
+    let rows = [
+        (0x400, 0, 0x7F),
+        (0x404, 0x20, 0x93),
+        (0x404, 0x2B, 0),
+        (0x404, 0x28, 0x73),
+        (0x440, 0, 1),
+        (0x440, 3, 4),
+        (0x440, 4, 0),
+        (0x3FF, 63, 0),
+        (1 << 26, 0, 0),
+        (u64::MAX, 63, 0),
+    ];
+    for (line, place, byte) in rows {
+        let bytes = world.initial_line(line);
+        assert_eq!(rt;
+            bytes.as_slice().get(place).copied(),
+            Some(byte),
+            "{line:x}"
+        );
+    }
     Ok(())
 }
 
@@ -156,18 +310,20 @@ fn lays_out_memory(rt: HostRuntime) -> Result<(), Fail> {
     let layout = world.layout();
     assert_eq!(rt; world.entry(), 0x10120);
     assert_eq!(rt; world.image().entry(), 0x10120);
-    assert_eq!(rt; (layout.heap_start, layout.heap_end), (0x11000, 0x111000));
+    assert_eq!(rt; (layout.heap_start, layout.heap_end), (0x12000, 0x112000));
     assert_eq!(rt;
         (layout.stack_base, world.stack_end()),
-        (0x112000, 0x122000)
+        (0x113000, 0x123000)
     );
     let bytes = [
         (0x10000, 0x7F),
         (0x10120, 0x93),
-        (0x1012B, 0),
         (0x10128, 0x73),
         (0x1012C, 0),
-        (0x10130, 0),
+        (0x11000, 1),
+        (0x11003, 4),
+        (0x11004, 0),
+        (0x11014, 0),
         (0xFFFF, 0),
     ];
     for (address, byte) in bytes {
@@ -183,9 +339,8 @@ fn fetches_words_of_executable_segments(rt: HostRuntime) -> Result<(), Fail> {
         (0x10120, Some(0x05D0_0893)),
         (0x10124, Some(0x0000_0513)),
         (0x10128, Some(0x0000_0073)),
-        (0x1012C, Some(0)),
-        (0x1012D, None),
-        (0x10130, None),
+        (0x10129, None),
+        (0x1012C, None),
         (0xFFFD, None),
         (0x11000, None),
         (u64::MAX, None),
@@ -200,23 +355,20 @@ fn fetches_words_of_executable_segments(rt: HostRuntime) -> Result<(), Fail> {
 fn grants_rights_by_byte(rt: HostRuntime) -> Result<(), Fail> {
     let world = World::new(plain_image(rt.alloc())?);
     let rows = [
-        ("the segment's last byte", 0x1012F, 1, Right::Read, true),
-        (
-            "into the gap past the segment",
-            0x1012F,
-            2,
-            Right::Read,
-            false,
-        ),
-        ("before the segment", 0xFFFF, 1, Right::Read, false),
-        ("a write of text", 0x10120, 1, Right::Write, false),
-        ("an atomic on text", 0x10120, 4, Right::ReadWrite, false),
-        ("the heap's first bytes", 0x11000, 8, Right::ReadWrite, true),
-        ("the heap's last byte", 0x110FFF, 1, Right::Write, true),
-        ("past the heap", 0x110FFF, 2, Right::Write, false),
-        ("before the stack", 0x111FFF, 1, Right::Read, false),
-        ("the stack's last byte", 0x121FFF, 1, Right::Write, true),
-        ("past the stack", 0x121FFF, 2, Right::Read, false),
+        ("the code's last byte", 0x1012B, 1, Right::Read, true),
+        ("into the gap past the code", 0x1012B, 2, Right::Read, false),
+        ("before the code", 0xFFFF, 1, Right::Read, false),
+        ("a write of code", 0x10120, 1, Right::Write, false),
+        ("an atomic on code", 0x10120, 4, Right::ReadWrite, false),
+        ("an atomic on data", 0x11000, 4, Right::ReadWrite, true),
+        ("the data's last bytes", 0x11010, 4, Right::Write, true),
+        ("past the data", 0x11011, 4, Right::Read, false),
+        ("the heap's first bytes", 0x12000, 8, Right::ReadWrite, true),
+        ("the heap's last byte", 0x111FFF, 1, Right::Write, true),
+        ("past the heap", 0x111FFF, 2, Right::Write, false),
+        ("before the stack", 0x112FFF, 1, Right::Read, false),
+        ("the stack's last byte", 0x122FFF, 1, Right::Write, true),
+        ("past the stack", 0x122FFF, 2, Right::Read, false),
         ("no bytes", 0, 0, Right::Write, true),
         ("past 2^64", u64::MAX, 2, Right::Read, false),
         ("all of memory", 0, u64::MAX, Right::Read, false),

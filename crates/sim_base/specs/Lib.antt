@@ -1,1 +1,4 @@
 pub mod LittleEndian
+pub mod Numbering
+pub mod Ranges
+pub mod Settings

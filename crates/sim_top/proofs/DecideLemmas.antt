@@ -5,9 +5,9 @@ use Rattle.std.proofs.lemmas.Bool.Decides.{nat_tests}
 use Rattle.sim_base.specs.declared.ends.End.{End}
 use Rattle.sim_base.specs.declared.ends.End.TheVariants.{Exit, Trap, Deadlock, Budget}
 use Rattle.sim_outside.specs.Told.{Tells, Exceeds}
-use Rattle.elf_image.specs.Image.{Program, image_of, is_too_long}
+use Rattle.elf_image.specs.Image.{Program, image_of, first_of, header_refusals, is_too_long}
 use Rattle.elf_image.specs.declared.refusal.ImageFault.{ImageFault}
-use Rattle.elf_image.specs.declared.refusal.ImageFault.TheVariants.{Form}
+use Rattle.elf_image.specs.declared.refusal.ImageFault.TheVariants.{TooLong}
 use Rattle.flat_machine.specs.Run.{after}
 use Rattle.sim_top.specs.declared.outcomes.Decision.{Decision}
 use Rattle.sim_base.specs.declared.memory.NoMemory.{NoMemory}
@@ -32,7 +32,8 @@ module _ (i : Input) (name file : List ℕ) (is : IsImageFile i name file) where
   decides_file d e = rw e (by_image (image_of file) refl)
 
 -- a file over the limit is refused
-pub too_long : (file : List ℕ) → 16777216 < length file → image_of file ≡ Err Form
+pub too_long : (file : List ℕ) → 16777216 < length file → image_of file ≡ Err TooLong
+unfolding first_of header_refusals
 too_long file h = let t : is_too_long file ≡ true = grind (arith, nat_tests) in rw t refl
 
 -- a file of which a reading found more than the limit is such a file
@@ -50,7 +51,7 @@ decided i name file (Err e) is h = tt
 -- and so is a refusal of a file that is too long, whatever more is in it than was read
 pub decided_too_long : (i : Input) (name bytes : List ℕ) (r : Result Decision NoMemory) → image_name i.words ≡ Some name
     → 16777216 < length bytes → Exceeds (i.holds name) bytes 16777216
-    → IfOk r (λ d. d ≡ refused (BadImage Form)) → IfOk r (λ d. Decides i d.outcome d.text)
+    → IfOk r (λ d. d ≡ refused (BadImage TooLong)) → IfOk r (λ d. Decides i d.outcome d.text)
 decided_too_long i name bytes (Err e) named long exceeds h = tt
 decided_too_long i name bytes (Ok d) named long exceeds h =
     let file = long_file (i.holds name) bytes long exceeds in

@@ -1,7 +1,7 @@
 -- What is printed. This simulator's own.
 use Rattle.std.specs.Prelude.{ℕ, ◌-◌, ◌==◌, ◌&&◌, Bool, not, List, [], ◌∷◌, ◌++◌, length, slice_index, if◌then◌else◌, codes, decimal}
 use Rattle.elf_image.specs.declared.refusal.ImageFault.{ImageFault}
-use Rattle.elf_image.specs.declared.refusal.ImageFault.TheVariants.{Form}
+use Rattle.elf_image.specs.declared.refusal.ImageFault.TheVariants.{TooLong, Short, Magic, Class, Kind, Machine, Headers, Dynamic, Interp, Tls, Reach, Overlap, WriteExec, Entry}
 use Rattle.sim_top.specs.declared.outcomes.Outcome.{Outcome}
 use Rattle.sim_top.specs.declared.outcomes.Outcome.TheVariants.{Done, Usage, BadImage, NotBuilt, ReadFault, WriteFault, NoMemory}
 
@@ -23,7 +23,20 @@ run_text output code = whole_lines output ++ line (codes "== tilesim ==") ++ lin
 
 -- the name of a fault
 abbrev pub fault_name : ImageFault → List ℕ
-fault_name Form = codes "Form"
+fault_name TooLong = codes "TooLong"
+fault_name Short = codes "Short"
+fault_name Magic = codes "Magic"
+fault_name Class = codes "Class"
+fault_name Kind = codes "Kind"
+fault_name Machine = codes "Machine"
+fault_name Headers = codes "Headers"
+fault_name Dynamic = codes "Dynamic"
+fault_name Interp = codes "Interp"
+fault_name Tls = codes "Tls"
+fault_name Reach = codes "Reach"
+fault_name Overlap = codes "Overlap"
+fault_name WriteExec = codes "WriteExec"
+fault_name Entry = codes "Entry"
 
 -- the line that says why there was no run
 abbrev pub fault_text : Outcome → List ℕ

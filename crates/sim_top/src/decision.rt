@@ -37,7 +37,7 @@ pub(crate) fn decide<F: Files>(
         Err(FileAnswer::TooLong) => refuse(
             alloc,
             Outcome::BadImage {
-                fault: ImageFault::Form,
+                fault: ImageFault::TooLong,
             },
         ),
         Err(FileAnswer::Failed) => refuse(alloc, Outcome::ReadFault),

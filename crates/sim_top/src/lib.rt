@@ -2,6 +2,8 @@
 //! the process.
 #![tactic(auto)]
 
+#[cfg(test)]
+mod data_image;
 mod decision;
 mod outcomes;
 mod putting;

@@ -43,7 +43,20 @@ fn fault_name(fault: ImageFault) -> &'static [u8]
     ensures { result.now ≡ fault_name fault }
 {
     match fault {
-        ImageFault::Form => b"Form",
+        ImageFault::TooLong => b"TooLong",
+        ImageFault::Short => b"Short",
+        ImageFault::Magic => b"Magic",
+        ImageFault::Class => b"Class",
+        ImageFault::Kind => b"Kind",
+        ImageFault::Machine => b"Machine",
+        ImageFault::Headers => b"Headers",
+        ImageFault::Dynamic => b"Dynamic",
+        ImageFault::Interp => b"Interp",
+        ImageFault::Tls => b"Tls",
+        ImageFault::Reach => b"Reach",
+        ImageFault::Overlap => b"Overlap",
+        ImageFault::WriteExec => b"WriteExec",
+        ImageFault::Entry => b"Entry",
     }
 }
 

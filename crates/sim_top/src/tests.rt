@@ -1,6 +1,7 @@
 //! Whole runs, from the words and the file to the text and the status. Expected values are worked out by
 //! hand from the RISC-V ISA manual and the rules of the calls.
 
+use crate::data_image::DATA;
 use crate::sort_image::SORT;
 use crate::{Finish, Outcome, execute_alone};
 use elf_image::{ImageFault, World, read_image};
@@ -25,6 +26,29 @@ const HEADERS: [u8; 96] = [
     0, 0, 0x01, 0, 0, 0, 0, 0, // p_paddr
 ];
 
+/// What the usual linker writes: attributes, a segment that is read and executed from the file's start to
+/// 0x10000, one of 4 bytes that is read and written at 0x11000, and a mark for the stack. The entry is 0x10120.
+const LINKED_HEADERS: [u8; 288] = [
+    0x7F, 0x45, 0x4C, 0x46, 0x02, 0x01, 0x01, 0x00, 0x00, 0x00, 0x00, 0x00, 0x00, 0x00, 0x00, 0x00,
+    0x02, 0x00, 0xF3, 0x00, 0x01, 0x00, 0x00, 0x00, 0x20, 0x01, 0x01, 0x00, 0x00, 0x00, 0x00, 0x00,
+    0x40, 0x00, 0x00, 0x00, 0x00, 0x00, 0x00, 0x00, 0x00, 0x00, 0x00, 0x00, 0x00, 0x00, 0x00, 0x00,
+    0x05, 0x00, 0x00, 0x00, 0x40, 0x00, 0x38, 0x00, 0x04, 0x00, 0x00, 0x00, 0x00, 0x00, 0x00, 0x00,
+    0x03, 0x00, 0x00, 0x70, 0x04, 0x00, 0x00, 0x00, 0x94, 0x01, 0x00, 0x00, 0x00, 0x00, 0x00, 0x00,
+    0x00, 0x00, 0x00, 0x00, 0x00, 0x00, 0x00, 0x00, 0x00, 0x00, 0x00, 0x00, 0x00, 0x00, 0x00, 0x00,
+    0x00, 0x00, 0x00, 0x00, 0x00, 0x00, 0x00, 0x00, 0x00, 0x00, 0x00, 0x00, 0x00, 0x00, 0x00, 0x00,
+    0x00, 0x10, 0x00, 0x00, 0x00, 0x00, 0x00, 0x00, 0x01, 0x00, 0x00, 0x00, 0x05, 0x00, 0x00, 0x00,
+    0x00, 0x00, 0x00, 0x00, 0x00, 0x00, 0x00, 0x00, 0x00, 0x00, 0x01, 0x00, 0x00, 0x00, 0x00, 0x00,
+    0x00, 0x00, 0x01, 0x00, 0x00, 0x00, 0x00, 0x00, 0x90, 0x01, 0x00, 0x00, 0x00, 0x00, 0x00, 0x00,
+    0x90, 0x01, 0x00, 0x00, 0x00, 0x00, 0x00, 0x00, 0x00, 0x10, 0x00, 0x00, 0x00, 0x00, 0x00, 0x00,
+    0x01, 0x00, 0x00, 0x00, 0x06, 0x00, 0x00, 0x00, 0x90, 0x01, 0x00, 0x00, 0x00, 0x00, 0x00, 0x00,
+    0x00, 0x10, 0x01, 0x00, 0x00, 0x00, 0x00, 0x00, 0x00, 0x10, 0x01, 0x00, 0x00, 0x00, 0x00, 0x00,
+    0x04, 0x00, 0x00, 0x00, 0x00, 0x00, 0x00, 0x00, 0x04, 0x00, 0x00, 0x00, 0x00, 0x00, 0x00, 0x00,
+    0x00, 0x10, 0x00, 0x00, 0x00, 0x00, 0x00, 0x00, 0x51, 0xE5, 0x74, 0x64, 0x06, 0x00, 0x00, 0x00,
+    0x00, 0x00, 0x00, 0x00, 0x00, 0x00, 0x00, 0x00, 0x00, 0x00, 0x00, 0x00, 0x00, 0x00, 0x00, 0x00,
+    0x00, 0x00, 0x00, 0x00, 0x00, 0x00, 0x00, 0x00, 0x00, 0x00, 0x00, 0x00, 0x00, 0x00, 0x00, 0x00,
+    0x00, 0x00, 0x00, 0x00, 0x00, 0x00, 0x00, 0x00, 0x00, 0x10, 0x00, 0x00, 0x00, 0x00, 0x00, 0x00,
+];
+
 /// Where the code begins in the file.
 const CODE: usize = 0x120;
 
@@ -47,6 +71,20 @@ fn image(alloc: Global, code: &[u32], text: &[u8]) -> Result<Vec<u8>, AllocError
         file.extend_from_slice(text)?;
     }
     file.resize(if text.is_empty() { 0x164 } else { 0x190 }, 0)?;
+    Ok(file)
+}
+
+/// An image as the usual linker lays it out, with these words at the entry, a text at 0x10180, and the data.
+fn linked(alloc: Global, code: &[u32], text: &[u8], data: [u8; 4]) -> Result<Vec<u8>, AllocError> {
+    let mut file = Vec::new(alloc);
+    file.extend_from_slice(&LINKED_HEADERS)?;
+    for word in code {
+        file.extend_from_slice(&word.to_le_bytes())?;
+    }
+    file.resize(0x180, 0)?;
+    file.extend_from_slice(text)?;
+    file.resize(0x190, 0)?;
+    file.extend_from_slice(&data)?;
     Ok(file)
 }
 
@@ -95,8 +133,8 @@ fn runs_and_refuses(rt: HostRuntime) -> Result<(), Fail> {
         0x00000513, 0x00000073,
     ];
     let done = Outcome::Done { code: 0 };
-    let form = Outcome::BadImage {
-        fault: ImageFault::Form,
+    let headers = Outcome::BadImage {
+        fault: ImageFault::Headers,
     };
     let alloc = rt.alloc();
     let mut short = image(alloc, &EXIT, b"")?;
@@ -126,7 +164,7 @@ fn runs_and_refuses(rt: HostRuntime) -> Result<(), Fail> {
             Outcome::NotBuilt,
             b"tilesim: not built\n",
         ),
-        (short, 6, form, b"tilesim: bad image Form\n"),
+        (short, 6, headers, b"tilesim: bad image Headers\n"),
     ];
     for (file, status, outcome, text) in rows {
         let (finish, taken) = run_alone(alloc, file)?;
@@ -134,6 +172,46 @@ fn runs_and_refuses(rt: HostRuntime) -> Result<(), Fail> {
         assert_eq!(rt; finish.outcome, outcome);
         assert_eq!(rt; taken.as_slice(), text, "{outcome:?}");
     }
+    Ok(())
+}
+
+#[test]
+fn runs_what_the_usual_linker_writes(rt: HostRuntime) -> Result<(), Fail> {
+    let alloc = rt.alloc();
+    // hello from the text segment, and a write of 4 bytes of which the last is past the data: -14.
+    let hello: [u32; 9] = [
+        0x04000893, 0x00100513, 0x000105B7, 0x18058593, 0x00600613, 0x00000073, 0x05D00893,
+        0x00000513, 0x00000073,
+    ];
+    let past: [u32; 8] = [
+        0x04000893, 0x00100513, 0x000115B7, 0x00158593, 0x00400613, 0x00000073, 0x05E00893,
+        0x00000073,
+    ];
+    // lui s0,0x11; lw t0,0(s0); addi t0,t0,1; sw t0,0(s0); lbu a0,0(s0); exit_group
+    let counts: [u32; 7] = [
+        0x00011437, 0x00042283, 0x00128293, 0x00542023, 0x00044503, 0x05E00893, 0x00000073,
+    ];
+    let rows: [(&[u32], u8, &[u8]); 3] = [
+        (&hello, 0, b"hello\n== tilesim ==\nend: exit 0\n"),
+        (&past, 242, b"== tilesim ==\nend: exit 242\n"),
+        (&counts, 43, b"== tilesim ==\nend: exit 43\n"),
+    ];
+    for (code, status, text) in rows {
+        let file = linked(alloc, code, b"hello\n", [42, 0, 0, 0])?;
+        let (finish, taken) = run_alone(alloc, file)?;
+        assert_eq!(rt; finish.outcome, Outcome::Done { code: status });
+        assert_eq!(rt; taken.as_slice(), text);
+    }
+    let mut both = linked(alloc, &hello, b"hello\n", [0; 4])?;
+    if let Some(flags) = both.get_mut(64 + 56 + 4) {
+        *flags = 7;
+    }
+    let (finish, taken) = run_alone(alloc, both)?;
+    assert_eq!(rt; finish.status, 6);
+    assert_eq!(rt;
+        taken.as_slice(),
+        b"tilesim: bad image WriteExec\n".as_slice()
+    );
     Ok(())
 }
 
@@ -478,13 +556,19 @@ fn loads_and_stores_meet_the_flat_memory(rt: HostRuntime) -> Result<(), Fail> {
 }
 
 #[test]
-fn a_compiled_program_runs(rt: HostRuntime) -> Result<(), Fail> {
-    // Its source and how it was compiled are in examples/sort; qemu-riscv64 prints the same.
+fn compiled_programs_run(rt: HostRuntime) -> Result<(), Fail> {
+    // Their sources and how they were compiled are in examples/sort, which qemu-riscv64 runs to the same text, and
+    // examples/data, whose counts are those of the letters of its sentence.
     let alloc = rt.alloc();
-    let (finish, taken) = run_alone(alloc, SORT.to_vec(alloc)?)?;
-    let text =
+    let sorted =
         b"206 286 716 940 991 1371 1438 2460 2471 3151 3237 3563 3729 4173 4500 5334 5372 5477 6183 6263 6364 6561 7020 8174\n1 0 0 2 10 4\n== tilesim ==\nend: exit 7\n";
-    assert_eq!(rt; taken.as_slice(), text.as_slice());
-    assert_eq!(rt; finish.outcome, Outcome::Done { code: 7 });
+    let counted =
+        b"The quick brown fox jumps over the lazy dog\no4 e3 r2 u2 z1\n== tilesim ==\nend: exit 12\n";
+    let rows: [(&[u8], u8, &[u8]); 2] = [(&SORT, 7, sorted), (&DATA, 12, counted)];
+    for (file, code, text) in rows {
+        let (finish, taken) = run_alone(alloc, file.to_vec(alloc)?)?;
+        assert_eq!(rt; taken.as_slice(), text);
+        assert_eq!(rt; finish.outcome, Outcome::Done { code });
+    }
     Ok(())
 }

@@ -1,0 +1,122 @@
+use crate::{Config, Field, Line, NodeId};
+use std::test::Fail;
+
+/// The default settings with another machine.
+fn machine(tiles: u32, hosts: u32, sets: u32, ways: u32) -> Config {
+    Config {
+        tiles,
+        hosts,
+        sets,
+        ways,
+        ..Config::defaults()
+    }
+}
+
+/// The default settings with another memory.
+fn memory(stack_bytes: u64, heap_bytes: u64) -> Config {
+    Config {
+        stack_bytes,
+        heap_bytes,
+        ..Config::defaults()
+    }
+}
+
+/// The default settings with other costs.
+fn costs(alu_cost: u64, amo_cost: u64, call_cost: u64, memory_cost: u64) -> Config {
+    Config {
+        alu_cost,
+        amo_cost,
+        call_cost,
+        memory_cost,
+        ..Config::defaults()
+    }
+}
+
+/// The default settings with another pace, and the greatest seed.
+fn pace(quantum: u64, slack: u64, interval: u64, events: u32) -> Config {
+    Config {
+        quantum,
+        slack,
+        interval,
+        events,
+        seed: 18_446_744_073_709_551_615,
+        ..Config::defaults()
+    }
+}
+
+#[test]
+fn the_first_setting_out_of_its_range_is_named(rt: HostRuntime) -> Result<(), Fail> {
+    let rows = [
+        (Config::defaults(), None),
+        (machine(1, 1, 1, 1), None),
+        (machine(64, 8, 1024, 16), None),
+        (machine(4, 4, 16, 4), None),
+        (machine(0, 1, 16, 4), Some(Field::Tiles)),
+        (machine(65, 8, 16, 4), Some(Field::Tiles)),
+        (machine(64, 9, 16, 4), Some(Field::Hosts)),
+        (machine(4, 5, 0, 4), Some(Field::Hosts)),
+        (machine(4, 1, 1025, 17), Some(Field::Sets)),
+        (machine(4, 1, 16, 17), Some(Field::Ways)),
+        (memory(4096, 0), None),
+        (memory(1_048_576, 67_108_864), None),
+        (memory(0, 1), Some(Field::StackBytes)),
+        (memory(4097, 4096), Some(Field::StackBytes)),
+        (memory(1_052_672, 4096), Some(Field::StackBytes)),
+        (memory(4096, 67_112_960), Some(Field::HeapBytes)),
+        (costs(1, 1, 0, 0), None),
+        (costs(1_000_000, 1_000_000, 1_000_000, 1_000_000), None),
+        (costs(0, 0, 0, 0), Some(Field::AluCost)),
+        (costs(1, 1_000_001, 1_000_001, 0), Some(Field::AmoCost)),
+        (costs(1, 1, 1_000_001, 0), Some(Field::CallCost)),
+        (costs(1, 1, 0, 1_000_001), Some(Field::MemoryCost)),
+        (pace(1, 0, 1, 1), None),
+        (
+            pace(1_000_000_000, 1_000_000_000, 1_000_000_000, 1_000_000),
+            None,
+        ),
+        (pace(0, 0, 0, 0), Some(Field::Quantum)),
+        (pace(1, 1_000_000_001, 0, 1), Some(Field::Slack)),
+        (pace(1, 0, 1_000_000_001, 1), Some(Field::Interval)),
+        (pace(1, 0, 1, 1_000_001), Some(Field::Events)),
+    ];
+    for (config, field) in rows {
+        assert_eq!(rt; config.check().err(), field, "{config:?}");
+    }
+    Ok(())
+}
+
+/// Nodes 0 to 4 are tiles, 5 is the control server, 6 and 7 are the local servers of hosts 0 and 1.
+#[test]
+fn five_tiles_on_two_hosts_are_numbered(rt: HostRuntime) -> Result<(), Fail> {
+    let config = Config {
+        tiles: 5,
+        hosts: 2,
+        ..Config::defaults()
+    };
+    assert_eq!(rt; config.nodes(), 8);
+    assert_eq!(rt; config.control(), 5);
+    assert_eq!(rt; (config.local(0), config.local(1)), (6, 7));
+    let nodes: [(NodeId, u32, NodeId); 8] = [
+        (0, 0, 0),
+        (1, 1, 1),
+        (2, 0, 2),
+        (3, 1, 3),
+        (4, 0, 4),
+        (5, 0, 0),
+        (6, 0, 0),
+        (7, 1, 1),
+    ];
+    for (node, host, place) in nodes {
+        assert!(rt; node < 8);
+        assert_eq!(rt;
+            (config.host_of(node), config.place_of(node)),
+            (host, place),
+            "node {node}"
+        );
+    }
+    let homes: [(Line, NodeId); 4] = [(4, 4), (5, 0), (1023, 3), (18_446_744_073_709_551_614, 4)];
+    for (line, home) in homes {
+        assert_eq!(rt; config.home(line), home, "line {line}");
+    }
+    Ok(())
+}
