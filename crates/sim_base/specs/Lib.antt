@@ -1,4 +1,5 @@
 pub mod LittleEndian
 pub mod Numbering
 pub mod Ranges
+pub mod Saturated
 pub mod Settings

@@ -1,4 +1,4 @@
-use crate::{Config, Field, Line, NodeId};
+use crate::{Config, Field, Line, LineData, NodeId};
 use std::test::Fail;
 
 /// The default settings with another machine.
@@ -117,6 +117,29 @@ fn five_tiles_on_two_hosts_are_numbered(rt: HostRuntime) -> Result<(), Fail> {
     let homes: [(Line, NodeId); 4] = [(4, 4), (5, 0), (1023, 3), (18_446_744_073_709_551_614, 4)];
     for (line, home) in homes {
         assert_eq!(rt; config.home(line), home, "line {line}");
+    }
+    Ok(())
+}
+
+/// The line's first bytes become 00 78 56 ff 12 00 00 00, and its last byte becomes ee.
+#[test]
+fn numbers_in_a_line_are_little_endian(rt: HostRuntime) -> Result<(), Fail> {
+    let mut line = LineData::zeros();
+    line.store(1, 4, 0xabcd_1234_5678);
+    line.store(3, 1, 0x77ff);
+    line.store(63, 1, 0xee);
+    line.store(64, 0, 0xdd);
+    let rows: [(u8, u8, u64); 6] = [
+        (0, 8, 0x12_ff56_7800),
+        (1, 4, 0x12ff_5678),
+        (2, 2, 0xff56),
+        (4, 1, 0x12),
+        (5, 0, 0),
+        (56, 8, 0xee00_0000_0000_0000),
+    ];
+    for (offset, size, number) in rows {
+        assert!(rt; size <= 8 && offset <= 56);
+        assert_eq!(rt; line.load(offset, size), number, "{size} bytes at {offset}");
     }
     Ok(())
 }
