@@ -1,0 +1,4 @@
+pub mod Mesh
+pub mod Cost
+pub use Rattle.sim_base.specs.Numbering
+pub use Rattle.sim_base.specs.Settings
