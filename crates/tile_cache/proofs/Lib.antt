@@ -1,0 +1,4 @@
+pub mod CacheLemmas
+pub mod CopyLemmas
+pub mod KeptLemmas
+pub mod SetLemmas

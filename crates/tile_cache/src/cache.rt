@@ -1,0 +1,159 @@
+ghost use Rattle.std.specs.Prelude.{◌≡◌, ◌≤◌, ◌<◌, ◌+◌, IsSome, IfOk, Some, None, length};
+ghost use Rattle.tile_cache.specs.Kept.{cache_of, IsKept};
+ghost use Rattle.tile_cache.specs.Cache.{IsCache, set_number, set_of, empty_cache, hold_of, content_of, touched, written, victim_of, placed, without_line, downgraded};
+
+use crate::set::Set;
+use crate::ways::{Hold, Way};
+use sim_base::{Line, LineData, NoMemory};
+use std::alloc::Global;
+use std::marker::Model;
+
+/// A private cache: set-associative and write-back. A line lies in the set of its number modulo the number
+/// of sets, and the lines of a set stand in the order of their last use. The rules are this simulator's
+/// own, after Graphite (HPCA 2010). No call but [`Cache::new`] can run out of memory.
+#[derive(Drop)]
+pub struct Cache {
+    ways: u32,
+    sets: Vec<Set>,
+}
+
+impl Model for Cache {
+    ghost use Rattle.tile_cache.specs.Cache.{Sets};
+
+    ghost Value = { Sets };
+
+    ghost use Rattle.tile_cache.specs.Kept.{cache_of, IsKept};
+
+    ghost view = { λ c. cache_of c.ways c.sets.items };
+
+    ghost invariant = { λ c. IsKept c.ways c.sets.items };
+}
+
+impl Cache {
+    /// A cache without lines, with memory for all that it will ever hold. Both numbers are above 0.
+    pub fn new(alloc: Global, sets: u32, ways: u32) -> Result<Cache, NoMemory>
+        requires some_set { 0 < sets }
+        requires some_way { 0 < ways }
+        ensures { IfOk result (λ cache. cache ≡ empty_cache sets ways) }
+    {
+        let sets = empty_sets(alloc, sets, ways)?;
+        Ok(Cache { ways, sets })
+    }
+
+    /// How a line is held, if it is there.
+    pub fn find(&self, line: Line) -> Option<Hold>
+        ensures hold { result ≡ hold_of self.now line }
+        ensures known { IsCache self.now }
+    {
+        self.set(line).find(line).map(|way| way.hold)
+    }
+
+    /// Lends what a line holds that is there.
+    pub fn content(&self, line: Line) -> &LineData
+        requires { IsSome (hold_of self.now line) }
+        ensures { content_of self.now line ≡ Some result.now }
+    {
+        match self.set(line).find(line) {
+            Some(way) => &way.content,
+            None => unreachable!(),
+        }
+    }
+
+    /// Makes a line that is there the most recent of its set.
+    pub fn touch(&mut self, line: Line)
+        requires { IsSome (hold_of self.old line) }
+        ensures { self.new ≡ touched self.old line }
+    {
+        let number = self.number(line);
+        self.sets[number].touch(line);
+    }
+
+    /// Writes a number's low `size` bytes, little-endian as in RISC-V, from `offset` on of a line that is
+    /// held in M. `size` is at most 8.
+    pub fn write(&mut self, line: Line, offset: u8, size: u8, value: u64)
+        requires held { hold_of self.old line ≡ Some Hold.M }
+        requires sized { size ≤ 8 }
+        requires fits { offset + size ≤ 64 }
+        ensures { self.new ≡ written self.old line offset size value }
+    {
+        let number = self.number(line);
+        self.sets[number].write(line, offset, size, value);
+    }
+
+    /// The line that has to leave before another is placed, with its hold: the least recent of the set,
+    /// where the set is full and doesn't have the line.
+    pub fn victim(&self, line: Line) -> Option<(Line, Hold)>
+        ensures victim { result ≡ victim_of self.now line }
+        ensures known { IsCache self.now }
+    {
+        let set = self.set(line);
+        if set.find(line).is_some() || set.len() < self.ways as usize {
+            return None;
+        }
+        set.last().map(|way| (way.line, way.hold))
+    }
+
+    /// Places a line at the front of its set, in the place of what the cache had of it. The set has the line
+    /// or has room.
+    pub fn place(&mut self, line: Line, hold: Hold, content: LineData)
+        requires { victim_of self.old line ≡ None }
+        ensures { self.new ≡ placed self.old line hold content }
+    {
+        let number = self.number(line);
+        let set = &mut self.sets[number];
+        let _ = set.take(line);
+        set.push_front(Way {
+            line,
+            hold,
+            content,
+        });
+    }
+
+    /// Takes a line out, and gives what it held. Where it isn't there, nothing changes.
+    pub fn drop_line(&mut self, line: Line) -> Option<LineData>
+        ensures content { result ≡ content_of self.old line }
+        ensures cache { self.new ≡ without_line self.old line }
+    {
+        let number = self.number(line);
+        self.sets[number].take(line).map(|way| way.content)
+    }
+
+    /// Holds a line in S from now on. Where it isn't there, nothing changes.
+    pub fn downgrade(&mut self, line: Line)
+        ensures { self.new ≡ downgraded self.old line }
+    {
+        let number = self.number(line);
+        self.sets[number].downgrade(line);
+    }
+
+    /// The number of a line's set.
+    fn number(&self, line: Line) -> usize
+        ensures number { result ≡ set_number self.now line }
+        ensures within { result < length self.now.sets }
+    {
+        (line % self.sets.len() as u64) as usize
+    }
+
+    /// A line's set.
+    fn set(&self, line: Line) -> &Set
+        ensures ways { result.now.ways.items ≡ set_of self.now line }
+        ensures known { IsCache self.now }
+    {
+        &self.sets[self.number(line)]
+    }
+}
+
+/// Sets without lines, each with memory for so many.
+#[tactic(auto, unfolding(crate::specs::Cache::empty_cache))]
+fn empty_sets(alloc: Global, sets: u32, ways: u32) -> Result<Vec<Set>, NoMemory>
+    requires some_set { 0 < sets }
+    requires some_way { 0 < ways }
+    ensures kept { IfOk result (λ made. IsKept ways made.items) }
+    ensures empty { IfOk result (λ made. cache_of ways made.items ≡ empty_cache sets ways) }
+{
+    let mut made = Vec::with_capacity(alloc, sets as usize)?;
+    for _ in 0..sets {
+        made.push(Set::new(alloc, ways as usize)?)?;
+    }
+    Ok(made)
+}

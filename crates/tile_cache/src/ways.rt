@@ -1,0 +1,18 @@
+use sim_base::{Line, LineData};
+
+/// How a line is held.
+#[derive(Clone, Copy, Debug, PartialEq, Eq)]
+pub enum Hold {
+    /// It may be read.
+    S,
+    /// It may be read and written; nobody else has it.
+    M,
+}
+
+/// A line in a set.
+#[derive(Clone, Copy)]
+pub(crate) struct Way {
+    pub(crate) line: Line,
+    pub(crate) hold: Hold,
+    pub(crate) content: LineData,
+}
