@@ -1,19 +1,12 @@
 /* Counts letters in a table of zeroed data, by a text and an order of initialised data, and keeps the lines
  * that it prints on a heap whose place it works out from the end of its data. */
 
+#include "../call.h"
+
 static char text[] = "the quick brown fox jumps over the lazy dog";
 static char order[] = {'o', 'e', 'r', 'u', 'z', 0};
 static int counts[256];
 extern char _end[];
-
-static long call(long number, long a, long b, long c) {
-    register long a7 asm("a7") = number;
-    register long a0 asm("a0") = a;
-    register long a1 asm("a1") = b;
-    register long a2 asm("a2") = c;
-    asm volatile("ecall" : "+r"(a0) : "r"(a7), "r"(a1), "r"(a2) : "memory");
-    return a0;
-}
 
 int main(void) {
     /* The heap begins at the first page at or above the end of every segment. */

@@ -2,16 +2,9 @@
  * on boards of 1 to 6 rows. There is no multiplication, no division and no data that is written outside
  * the stack, so it compiles to RV64I and to one segment that is read and executed. */
 
-typedef unsigned long word;
+#include "../call.h"
 
-static long call(long number, long a, long b, long c) {
-    register long a7 asm("a7") = number;
-    register long a0 asm("a0") = a;
-    register long a1 asm("a1") = b;
-    register long a2 asm("a2") = c;
-    asm volatile("ecall" : "+r"(a0) : "r"(a7), "r"(a1), "r"(a2) : "memory");
-    return a0;
-}
+typedef unsigned long word;
 
 static void print(const char *text, word length) {
     call(64, 1, (long)text, (long)length);

@@ -1,3 +1,5 @@
+pub mod Sizes
+pub mod Stacks
 pub mod Ranges
 pub mod Loads
 pub mod Refusals

@@ -1,26 +1,22 @@
 -- Where a program's segments, its heap and its stack lie in memory, and who may read, write and execute
 -- what. This simulator's own; a word is four bytes in little-endian order, as the RISC-V ISA manual has it.
-use Rattle.std.specs.Prelude.{ℕ, ◌+◌, ◌-◌, ◌*◌, ◌/◌, ◌&&◌, ◌||◌, ◌≡◌, ◌≤◌, ◌^◌, Bool, List, ◌++◌, map, nat_lt, nat_le, max, fold, find, if◌then◌else◌, Option, Some, None, slice_index}
+use Rattle.std.specs.Prelude.{ℕ, ◌+◌, ◌-◌, ◌*◌, ◌/◌, ◌&&◌, ◌||◌, ◌≡◌, ◌<◌, ◌≤◌, ◌^◌, true, Bool, List, ◌++◌, map, nat_lt, nat_le, max, fold, find, if◌then◌else◌, Option, Some, None, slice_index}
 use Rattle.std.specs.List.{list_any, list_all, flat_map, range_with_len}
 use Rattle.std.specs.Option.{option_map_or}
 use Rattle.byteorder.specs.Endian.{little_number}
+use Rattle.sim_base.specs.declared.lines.LineData.{LineData}
+use Rattle.sim_base.specs.declared.settings.Config.{Config}
+use Rattle.sim_base.specs.Settings.{IsChecked}
 use Rattle.elf_image.specs.declared.program.Segment.{Segment}
 use Rattle.elf_image.specs.declared.address_map.Layout.{Layout}
 use Rattle.elf_image.specs.declared.address_map.Right.{Right}
 use Rattle.elf_image.specs.declared.address_map.Right.TheVariants.{Read, Write, ReadWrite}
 use Rattle.elf_image.specs.Image.{Program, IsProgram, grants_execute, some_reads, some_writes, segment_end, holds}
 
--- a program with its settings, which are the default ones
+-- a program with the settings of the machine that runs it
 pub record Setup : Type 0 where
   pub image : Program
-
--- how many bytes the heap window has
-abbrev pub heap_bytes : ℕ
-heap_bytes = 1048576
-
--- how many bytes the stack has
-abbrev pub stack_bytes : ℕ
-stack_bytes = 65536
+  pub config : Config
 
 -- the greatest of the segments' ends, or 0 where there are none
 abbrev pub last_end : List Segment → ℕ
@@ -30,35 +26,61 @@ last_end segments = fold (λ last s. max last (segment_end s)) 0 segments
 abbrev pub round_up : ℕ → ℕ
 round_up n = (n + 4095) / 4096 * 4096
 
--- the heap window starts at the first page past every segment, and the stack 4096 bytes after the window
-abbrev pub layout_of : Program → Layout
-layout_of p = record {
-  heap_start = round_up (last_end p.segments);
-  heap_end = round_up (last_end p.segments) + heap_bytes;
-  stack_base = round_up (last_end p.segments) + heap_bytes + 4096;
-}
+-- the heap window starts at the first page past every segment, and the stacks 4096 bytes after the window
+abbrev pub heap_start : Setup → ℕ
+heap_start w = round_up (last_end w.image.segments)
 
--- a layout is that of a program, and the heap starts low enough for sums on its addresses
-pub record IsLaidOut (p : Program) (l : Layout) : Type 0 where
-  pub program : IsProgram p
-  pub laid : l ≡ layout_of p
+abbrev pub heap_end : Setup → ℕ
+heap_end w = heap_start w + w.config.heap_bytes
+
+abbrev pub stack_base : Setup → ℕ
+stack_base w = heap_end w + 4096
+
+abbrev pub layout_of : Setup → Layout
+layout_of w = record { heap_start = heap_start w; heap_end = heap_end w; stack_base = stack_base w }
+
+-- the stacks lie one after the other by tiles, with 4096 bytes between them
+abbrev pub stack_start : Setup → ℕ → ℕ
+stack_start w tile = stack_base w + tile * (w.config.stack_bytes + 4096)
+
+abbrev pub stack_end : Setup → ℕ → ℕ
+stack_end w tile = stack_start w tile + w.config.stack_bytes
+
+-- what is known of a program with its settings and layout: the settings are checked, and small enough for sums
+-- on addresses, as the heap's start is
+pub record IsLaidOut (w : Setup) (l : Layout) : Type 0 where
+  pub program : IsProgram w.image
+  pub checked : IsChecked w.config
+  pub laid : l ≡ layout_of w
   pub low : l.heap_start ≤ 2 ^ 32
+  pub some_tile : 1 ≤ w.config.tiles
+  pub tiles : w.config.tiles ≤ 64
+  pub heap : w.config.heap_bytes ≤ 2 ^ 26
+  pub some_stack : 4096 ≤ w.config.stack_bytes
+  pub stack : w.config.stack_bytes ≤ 2 ^ 20
 
--- the first address past the stack
-abbrev pub stack_end : Setup → ℕ
-stack_end w = (layout_of w.image).stack_base + stack_bytes
+-- whether an address lies in the heap window; on the stack of a tile; in one of the two
+abbrev pub is_heap : Setup → ℕ → Bool
+is_heap w address = nat_le (heap_start w) address && nat_lt address (heap_end w)
 
--- whether an address lies in the heap window or on the stack
+abbrev pub is_on_stack : Setup → ℕ → ℕ → Bool
+is_on_stack w address tile = nat_le (stack_start w tile) address && nat_lt address (stack_end w tile)
+
+abbrev pub is_stack : Setup → ℕ → Bool
+is_stack w address = list_any (is_on_stack w address) (range_with_len 0 w.config.tiles)
+
 abbrev pub is_free : Setup → ℕ → Bool
-is_free w address =
-    let l = layout_of w.image in
-    nat_le l.heap_start address && nat_lt address l.heap_end || nat_le l.stack_base address && nat_lt address (stack_end w)
+is_free w address = is_heap w address || is_stack w address
 
--- whether the byte at an address may be read: the heap window, the stack or a readable segment has it
+-- each of so many bytes from an address on lies in the heap window or on a stack
+abbrev pub AreFree : Setup → ℕ → ℕ → Type 0
+AreFree w address size = (k : ℕ) → address ≤ k → k < address + size → is_free w k ≡ true
+
+-- whether the byte at an address may be read: the heap window, a stack or a readable segment has it
 abbrev pub is_readable : Setup → ℕ → Bool
 is_readable w address = is_free w address || some_reads w.image address
 
--- whether the byte at an address may be written: the heap window, the stack or a writable segment has it
+-- whether the byte at an address may be written: the heap window, a stack or a writable segment has it
 abbrev pub is_writable : Setup → ℕ → Bool
 is_writable w address = is_free w address || some_writes w.image address
 
@@ -80,9 +102,12 @@ byte_of s address = slice_index s.bytes (address - s.vaddr)
 abbrev pub start_byte : Setup → ℕ → ℕ
 start_byte w address = option_map_or (λ s. byte_of s address) (find (λ s. holds s address) w.image.segments) 0
 
--- the 64 bytes of a line before the program runs: line number n has the addresses from 64 * n on
-unfoldable pub initial_line : Setup → ℕ → List ℕ
-initial_line w line = map (λ place. start_byte w (line * 64 + place)) (range_with_len 0 64)
+-- what a line holds before the program runs: line number n has the 64 addresses from 64 * n on
+unfoldable pub initial_bytes : Setup → ℕ → List ℕ
+initial_bytes w line = map (λ place. start_byte w (line * 64 + place)) (range_with_len 0 64)
+
+abbrev pub initial_line : Setup → ℕ → LineData
+initial_line w line = record { bytes = initial_bytes w line }
 
 -- whether a segment has the four bytes at an address
 abbrev pub holds_word : Segment → ℕ → Bool
@@ -97,12 +122,14 @@ is_executable p address = list_any (λ s. grants_execute s && holds_word s addre
 abbrev pub fetch : Setup → ℕ → Option ℕ
 fetch w pc = if is_executable w.image pc then Some (little_number 4 (map (start_byte w) (range_with_len pc 4))) else None
 
--- the addresses of a segment, and all that are mapped: each segment's, the heap window's, the stack's
+-- the addresses of a segment and of a tile's stack, and all that are mapped
 abbrev pub addresses : Segment → List ℕ
 addresses s = range_with_len s.vaddr s.memsz
 
+abbrev pub stack_addresses : Setup → ℕ → List ℕ
+stack_addresses w tile = range_with_len (stack_start w tile) w.config.stack_bytes
+
 unfoldable pub mapped : Setup → List ℕ
 mapped w =
-    let l = layout_of w.image in
-    flat_map addresses w.image.segments ++ range_with_len l.heap_start (l.heap_end - l.heap_start)
-    ++ range_with_len l.stack_base (stack_end w - l.stack_base)
+    flat_map addresses w.image.segments ++ range_with_len (heap_start w) w.config.heap_bytes
+    ++ flat_map (stack_addresses w) (range_with_len 0 w.config.tiles)

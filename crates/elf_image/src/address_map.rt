@@ -1,19 +1,16 @@
-ghost use Rattle.std.specs.Prelude.{◌≡◌, ◌+◌, ◌^◌, ◌<◌, ◌≤◌, All};
+ghost use Rattle.std.specs.Prelude.{◌≡◌, ◌+◌, ◌*◌, ◌^◌, ◌<◌, ◌≤◌, nat_lt, All};
 ghost use Rattle.std.specs.Bool.{OnTrue};
 ghost use Rattle.elf_image.specs.Image.{IsSegment, IsProgram};
-ghost use Rattle.elf_image.specs.Layout.{heap_bytes, layout_of, IsLaidOut, stack_end, last_end, is_free, is_readable, is_writable, has_right, may, start_byte, initial_line, fetch};
+ghost use Rattle.elf_image.specs.Layout.{layout_of, IsLaidOut, stack_end, last_end, round_up, is_heap, is_stack, is_free, AreFree, is_readable, is_writable, has_right, may, start_byte, initial_line, fetch};
+ghost use Rattle.sim_base.specs.Settings.{IsChecked};
 
 use crate::program::{Image, Segment};
 use byteorder::{ByteOrder, LittleEndian};
+use sim_base::{Config, Line, LineData, NodeId};
 use std::marker::Model;
 
-/// How many bytes the heap window has.
-pub const HEAP_BYTES: u64 = 1_048_576;
-
-/// How many bytes the stack has.
-pub const STACK_BYTES: u64 = 65_536;
-
-/// How many bytes lie between the heap window and the stack, and what the heap's start is a multiple of.
+/// How many bytes lie between the heap window and the first stack, and from a stack to the next, and what the
+/// heap's start is a multiple of.
 const PAGE: u64 = 4096;
 
 /// How many bytes a line has.
@@ -22,14 +19,14 @@ const LINE_BYTES: u64 = 64;
 /// The first line past those of 32-bit addresses.
 const LINE_END: u64 = (1 << 32) / LINE_BYTES;
 
-/// Where the heap window and the stack lie.
+/// Where the heap window and the stacks lie.
 #[derive(Clone, Copy, Debug, PartialEq, Eq)]
 pub struct Layout {
     /// The first address of the heap window.
     pub heap_start: u64,
     /// The first address past the heap window.
     pub heap_end: u64,
-    /// The first address of the stack.
+    /// The first address of tile 0's stack. Each tile's begins 4096 bytes after the end of the one before.
     pub stack_base: u64,
 }
 
@@ -44,12 +41,14 @@ pub enum Right {
     ReadWrite,
 }
 
-/// A program with its settings: its memory before it runs, and the rights of each byte. This
-/// simulator's own: the heap window is the `HEAP_BYTES` bytes from the first multiple of 4096 past every
-/// segment, and the stack the `STACK_BYTES` bytes that begin 4096 bytes after it.
+/// A program with the settings of the machine that runs it: its memory before it runs, and the rights of each
+/// byte. This simulator's own: the heap window has `heap_bytes` bytes from the first multiple of 4096 past every
+/// segment on. The stacks begin 4096 bytes after it, one for each tile, each of `stack_bytes` bytes and 4096 bytes
+/// after the one before.
 #[derive(Drop)]
 pub struct World {
     image: Image,
+    config: Config,
     layout: Layout,
 }
 
@@ -58,18 +57,23 @@ impl Model for World {
 
     ghost Value = { Setup };
 
-    ghost view = { λ w. record { image = w.image } };
+    ghost view = { λ w. record { image = w.image; config = w.config } };
 
-    ghost invariant = { λ w. IsLaidOut w.image w.layout };
+    ghost invariant = { λ w. IsLaidOut (record { image = w.image; config = w.config }) w.layout };
 }
 
 impl World {
-    /// The world of a program, with the default settings.
-    pub fn new(image: Image) -> World
-        ensures { result ≡ record { image = image } }
+    /// The world of a program, with settings that pass [`Config::check`].
+    pub fn new(image: Image, config: Config) -> World
+        requires { IsChecked config }
+        ensures { result ≡ record { image = image; config = config } }
     {
-        let layout = layout_for(&image);
-        World { image, layout }
+        let layout = layout_for(&image, &config);
+        World {
+            image,
+            config,
+            layout,
+        }
     }
 
     /// The program.
@@ -79,30 +83,43 @@ impl World {
         &self.image
     }
 
-    /// The address of the first instruction.
+    /// The address of the first instruction, where thread 0 begins on tile 0.
     pub fn entry(&self) -> u64
         ensures value { result ≡ self.now.image.entry }
         ensures program { IsProgram self.now.image }
+        ensures tile { 0 < self.now.config.tiles }
     {
+        // The layout's bounds say that there is a tile.
+        let _ = &self.layout;
         self.image.entry()
     }
 
-    /// Where the heap window and the stack lie.
+    /// The settings.
+    pub fn config(&self) -> &Config
+        ensures value { result.now ≡ self.now.config }
+        ensures checked { IsChecked self.now.config }
+    {
+        &self.config
+    }
+
+    /// Where the heap window and the stacks lie.
     pub fn layout(&self) -> Layout
-        ensures value { result ≡ layout_of self.now.image }
-        ensures window { result.heap_end ≡ result.heap_start + heap_bytes }
-        ensures gap { result.stack_base ≡ result.heap_end + 4096 }
+        ensures value { result ≡ layout_of self.now }
         ensures low { result.heap_start ≤ 2 ^ 32 }
     {
         self.layout
     }
 
-    /// The first address past the stack.
-    pub fn stack_end(&self) -> u64
-        ensures value { result ≡ stack_end self.now }
+    /// The first address past a tile's stack.
+    pub fn stack_end(&self, tile: NodeId) -> u64
+        requires { tile < self.now.config.tiles }
+        ensures value { result ≡ stack_end self.now tile }
+        ensures room { self.now.config.stack_bytes ≤ result }
+        ensures some { 4096 ≤ self.now.config.stack_bytes }
         ensures low { result < 2 ^ 33 }
     {
-        self.layout.stack_base + STACK_BYTES
+        let before = tile as u64 * (self.config.stack_bytes + PAGE);
+        self.layout.stack_base + before + self.config.stack_bytes
     }
 
     /// The byte at an address before the program runs: the segment's that has it, and 0 where none has.
@@ -117,7 +134,7 @@ impl World {
 
     /// The 64 bytes of a line before the program runs. Line number `n` has the addresses from `64 * n` on,
     /// and each byte is the segment's that has it, and 0 where none has.
-    pub fn initial_line(&self, line: u64) -> [u8; 64]
+    pub fn initial_line(&self, line: Line) -> LineData
         ensures { result ≡ initial_line self.now line }
     {
         // The layout's bounds say that no segment has an address from 2^32 on.
@@ -128,7 +145,7 @@ impl World {
                 bytes[place] = self.start_byte(line * LINE_BYTES + place as u64);
             }
         }
-        bytes
+        LineData { bytes }
     }
 
     /// The instruction word at an address, if one executable segment has its four bytes.
@@ -156,6 +173,9 @@ impl World {
         let Some(end) = addr.checked_add(size) else {
             return false;
         };
+        if size <= self.free_from(addr) {
+            return true;
+        }
         (addr..end).all(|address| self.has_right(address, right))
     }
 
@@ -184,31 +204,79 @@ impl World {
         self.is_free(address) || self.image.is_writable(address)
     }
 
-    /// Whether an address lies in the heap window or on the stack.
+    /// Whether an address lies in the heap window or on a stack.
     fn is_free(&self, address: u64) -> bool
         ensures { result ≡ is_free self.now address }
     {
-        let Layout {
-            heap_start,
-            heap_end,
-            stack_base,
-        } = self.layout;
-        (heap_start <= address && address < heap_end)
-            || (stack_base <= address && address < self.stack_end())
+        self.is_heap(address) || self.is_stack(address)
+    }
+
+    /// Whether an address lies in the heap window.
+    fn is_heap(&self, address: u64) -> bool
+        ensures { result ≡ is_heap self.now address }
+    {
+        self.layout.heap_start <= address && address < self.layout.heap_end
+    }
+
+    /// Whether an address lies on the stack of some tile.
+    fn is_stack(&self, address: u64) -> bool
+        ensures { result ≡ is_stack self.now address }
+    {
+        self.left_on_stack(address) > 0
+    }
+
+    /// So many bytes from an address on lie in the heap window or on one stack, where each may be read and written.
+    fn free_from(&self, address: u64) -> u64
+        ensures { AreFree self.now address result }
+    {
+        if self.is_heap(address) {
+            self.layout.heap_end - address
+        } else {
+            self.left_on_stack(address)
+        }
+    }
+
+    /// So many bytes from an address on are left on its stack; none where it lies on no stack.
+    fn left_on_stack(&self, address: u64) -> u64
+        ensures on { nat_lt 0 result ≡ is_stack self.now address }
+        ensures free { AreFree self.now address result }
+    {
+        let base = self.layout.stack_base;
+        if address < base {
+            return 0;
+        }
+        let stack = self.config.stack_bytes;
+        let tile = (address - base) / (stack + PAGE);
+        let place = (address - base) % (stack + PAGE);
+        if tile < self.config.tiles as u64 && place < stack {
+            stack - place
+        } else {
+            0
+        }
     }
 }
 
-/// The layout of a program.
-fn layout_for(image: &Image) -> Layout
-    ensures { IsLaidOut image.now result }
+/// The layout of a program under these settings.
+fn layout_for(image: &Image, config: &Config) -> Layout
+    requires { IsChecked config.now }
+    ensures { IsLaidOut (record { image = image.now; config = config.now }) result }
 {
-    let heap_start = last_end(image.segments()).next_multiple_of(PAGE);
-    let heap_end = heap_start + HEAP_BYTES;
+    let heap_start = heap_start_for(image);
+    let heap_end = heap_start + config.heap_bytes;
     Layout {
         heap_start,
         heap_end,
         stack_base: heap_end + PAGE,
     }
+}
+
+/// The first multiple of 4096 that isn't below any segment's end.
+fn heap_start_for(image: &Image) -> u64
+    ensures value { result ≡ round_up (last_end image.now.segments) }
+    ensures low { result ≤ 2 ^ 32 }
+    ensures program { IsProgram image.now }
+{
+    last_end(image.segments()).next_multiple_of(PAGE)
 }
 
 /// The greatest of the segments' ends, or 0 where there are none.

@@ -1,4 +1,4 @@
-//! Which ELF64 files are programs, and where a program lies in memory: its segments, heap and stack,
+//! Which ELF64 files are programs, and where a program lies in memory: its segments, heap and stacks,
 //! the rights of each byte, and the words that can be fetched.
 #![tactic(auto)]
 
@@ -10,7 +10,7 @@ mod reading;
 mod refusal;
 mod writing;
 
-pub use address_map::{HEAP_BYTES, Layout, Right, STACK_BYTES, World};
+pub use address_map::{Layout, Right, World};
 pub use faults::FILE_LIMIT;
 pub use program::{Image, Segment};
 pub use reading::read_image;

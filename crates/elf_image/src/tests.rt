@@ -1,4 +1,5 @@
 use crate::{Image, ImageFault, ImageRefusal, Right, World, file_size, read_image, write_image};
+use sim_base::Config;
 use std::alloc::{AllocError, Global};
 use std::test::Fail;
 
@@ -280,7 +281,7 @@ fn writes_a_file_that_reads_back(rt: HostRuntime) -> Result<(), Fail> {
 
 #[test]
 fn gives_a_line_before_the_program_runs(rt: HostRuntime) -> Result<(), Fail> {
-    let world = World::new(plain_image(rt.alloc())?);
+    let world = World::new(plain_image(rt.alloc())?, Config::defaults());
     let rows = [
         (0x400, 0, 0x7F),
         (0x404, 0x20, 0x93),
@@ -294,9 +295,9 @@ fn gives_a_line_before_the_program_runs(rt: HostRuntime) -> Result<(), Fail> {
         (u64::MAX, 63, 0),
     ];
     for (line, place, byte) in rows {
-        let bytes = world.initial_line(line);
+        let content = world.initial_line(line);
         assert_eq!(rt;
-            bytes.as_slice().get(place).copied(),
+            content.bytes.as_slice().get(place).copied(),
             Some(byte),
             "{line:x}"
         );
@@ -306,14 +307,16 @@ fn gives_a_line_before_the_program_runs(rt: HostRuntime) -> Result<(), Fail> {
 
 #[test]
 fn lays_out_memory(rt: HostRuntime) -> Result<(), Fail> {
-    let world = World::new(plain_image(rt.alloc())?);
+    let world = World::new(plain_image(rt.alloc())?, Config::defaults());
     let layout = world.layout();
     assert_eq!(rt; world.entry(), 0x10120);
     assert_eq!(rt; world.image().entry(), 0x10120);
     assert_eq!(rt; (layout.heap_start, layout.heap_end), (0x12000, 0x112000));
+    assert_eq!(rt; layout.stack_base, 0x113000);
+    assert!(rt; world.config().tiles == 4);
     assert_eq!(rt;
-        (layout.stack_base, world.stack_end()),
-        (0x113000, 0x123000)
+        (world.stack_end(0), world.stack_end(3)),
+        (0x123000, 0x156000)
     );
     let bytes = [
         (0x10000, 0x7F),
@@ -334,7 +337,7 @@ fn lays_out_memory(rt: HostRuntime) -> Result<(), Fail> {
 
 #[test]
 fn fetches_words_of_executable_segments(rt: HostRuntime) -> Result<(), Fail> {
-    let world = World::new(plain_image(rt.alloc())?);
+    let world = World::new(plain_image(rt.alloc())?, Config::defaults());
     let rows = [
         (0x10120, Some(0x05D0_0893)),
         (0x10124, Some(0x0000_0513)),
@@ -353,7 +356,7 @@ fn fetches_words_of_executable_segments(rt: HostRuntime) -> Result<(), Fail> {
 
 #[test]
 fn grants_rights_by_byte(rt: HostRuntime) -> Result<(), Fail> {
-    let world = World::new(plain_image(rt.alloc())?);
+    let world = World::new(plain_image(rt.alloc())?, Config::defaults());
     let rows = [
         ("the code's last byte", 0x1012B, 1, Right::Read, true),
         ("into the gap past the code", 0x1012B, 2, Right::Read, false),
@@ -369,6 +372,29 @@ fn grants_rights_by_byte(rt: HostRuntime) -> Result<(), Fail> {
         ("before the stack", 0x112FFF, 1, Right::Read, false),
         ("the stack's last byte", 0x122FFF, 1, Right::Write, true),
         ("past the stack", 0x122FFF, 2, Right::Read, false),
+        ("before the next stack", 0x123FFF, 1, Right::Read, false),
+        (
+            "the next stack's first bytes",
+            0x124000,
+            8,
+            Right::ReadWrite,
+            true,
+        ),
+        (
+            "the last stack's last byte",
+            0x155FFF,
+            1,
+            Right::Write,
+            true,
+        ),
+        ("past the last stack", 0x156000, 1, Right::Read, false),
+        (
+            "where a fifth stack would be",
+            0x157000,
+            1,
+            Right::Read,
+            false,
+        ),
         ("no bytes", 0, 0, Right::Write, true),
         ("past 2^64", u64::MAX, 2, Right::Read, false),
         ("all of memory", 0, u64::MAX, Right::Read, false),

@@ -4,3 +4,5 @@ pub mod MoveLemmas
 pub mod RunLemmas
 pub mod LegalLemmas
 pub mod WriteLemmas
+pub mod TrapLemmas
+pub mod ReservationLemmas

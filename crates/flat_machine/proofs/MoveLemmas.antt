@@ -1,6 +1,6 @@
 -- A move of one thread is a move of the machine.
-use Rattle.std.proofs.Common.{◌≡◌, ℕ, List, set, refl, sym, ap, ◌∙◌}
-use Rattle.std.specs.Prelude.{Option, Some, None, Result, Ok, Err, slice_get}
+use Rattle.std.proofs.Common.{◌≡◌, ℕ, Bool, true, false, List, set, refl, sym, ap, ◌∙◌}
+use Rattle.std.specs.Prelude.{Option, Some, None, Result, Ok, Err, slice_get, slice_set, option_and_then}
 use Rattle.std.proofs.lemmas.Option.{get_or_from_slice_get}
 use Rattle.std.proofs.lemmas.List.{set-get_or}
 use Rattle.flat_machine.specs.declared.machine.ActFault.{ActFault}
@@ -8,8 +8,11 @@ use Rattle.flat_machine.specs.declared.machine.ActFault.TheVariants.{NotLegal, N
 use Rattle.flat_machine.specs.declared.threads.Thread.{Thread}
 use Rattle.flat_machine.specs.State.{State, with_thread}
 use Rattle.elf_image.specs.Layout.{Setup}
-use Rattle.flat_machine.specs.Action.{Change, change_of, executed, with_change, with_instruction, with_move}
-use Rattle.flat_machine.specs.Gives.{Acts}
+use Rattle.flat_machine.specs.Action.{executed, with_instruction, with_move, is_vacant, begun, begun_by}
+use Rattle.std.specs.Ordering.{nat_cmp}
+use Rattle.std.specs.FinMap.{FinMap}
+use Rattle.std.specs.Option.{option_map}
+use Rattle.flat_machine.specs.Gives.{Acts, Executes}
 
 -- to write what is there changes nothing
 same_state : (s : State) (number : ℕ) (thread : Thread) → slice_get s.threads number ≡ Some thread → with_thread s number thread ≡ s
@@ -27,10 +30,29 @@ moved s number move old new (Err NoMemory) here h = ap (with_thread s number) h 
 pub not_there : (s : State) (number : ℕ) (move : Thread → Option Thread) → slice_get s.threads number ≡ None → with_move s number move ≡ None
 not_there s number move e = rw e refl
 
--- an instruction of one thread is an instruction of the machine
-pub instructed : (w : Setup) (s : State) (number : ℕ) (old : Thread) (new : Change) (r : Result (Unit {0}) ActFault)
-    → slice_get s.threads number ≡ Some old → Acts r (change_of s.memory old) new (executed w s.memory number old)
-    → Acts r s (with_change s number new) (with_instruction w s number)
-instructed w s number old new (Ok done) here h = rw here (rw h refl)
-instructed w s number old new (Err NotLegal) here h = (rw here (rw h.0 refl), ap (with_change s number) h.1 ∙ same_state s number old here)
-instructed w s number old new (Err NoMemory) here h = ap (with_change s number) h ∙ same_state s number old here
+-- an instruction of one thread that isn't made changes nothing
+pub not_executed : (w : Setup) (s : State) (number : ℕ) (old thread : Thread) (memory : FinMap nat_cmp ℕ) (fault : ActFault)
+    → slice_get s.threads number ≡ Some old → Executes (Err fault) s.memory memory old thread (executed w s.memory number old)
+    → Acts {T = Unit {0}} (Err fault) s (record s { memory = memory; threads = slice_set s.threads number thread }) (with_instruction w s number)
+not_executed w s number old thread memory NotLegal here h = (rw here (rw h.0 refl), rw (h.1, h.2) (same_state s number old here))
+not_executed w s number old thread memory NoMemory here h = rw (h.0, h.1) (same_state s number old here)
+
+-- no thread begins on a tile that isn't vacant, and on a vacant one a new thread does
+no_room : (w : Setup) (s : State) (number tile : ℕ) (vacant : Bool) → vacant ≡ false → with_move s number (λ t. begun_by w tile vacant t.status) ≡ None
+no_room w s number tile true e = cc
+no_room w s number tile false e = by_thread (slice_get s.threads number) where
+  by_thread : (o : Option Thread) → option_map (with_thread s number) (option_and_then (λ t. begun_by w tile false t.status) o) ≡ None
+  by_thread None = refl
+  by_thread (Some t) = refl
+
+has_room : (w : Setup) (s : State) (number tile : ℕ) (vacant : Bool) → vacant ≡ true
+    → with_move s number (λ t. begun_by w tile true t.status) ≡ with_move s number (λ t. begun_by w tile vacant t.status)
+has_room w s number tile true e = refl
+has_room w s number tile false e = cc
+
+pub not_begun : (w : Setup) (s : State) (number tile : ℕ) → is_vacant w s tile ≡ false → with_move s number (begun w s tile) ≡ None
+not_begun w s number tile e = no_room w s number tile (is_vacant w s tile) e
+
+pub begins : (w : Setup) (s : State) (number tile : ℕ) → is_vacant w s tile ≡ true
+    → with_move s number (λ t. begun_by w tile true t.status) ≡ with_move s number (begun w s tile)
+begins w s number tile e = has_room w s number tile (is_vacant w s tile) e

@@ -1,6 +1,6 @@
 -- The memory that the start regions make is the memory at the start.
 use Rattle.std.proofs.Common.{◌≡◌, ℕ, ◌+◌, ◌-◌, ◌≤◌, Bool, true, false, cond, List, [], ◌∷◌, ◌++◌, length, map, replicate, zero, suc, refl, sym, ap, ◌∙◌, inl, inr, arith, append_assoc, length-append, eq-eqb}
-use Rattle.std.specs.Prelude.{◌||◌, nat_lt, nat_eq, slice_index, Some, None, find as find_in}
+use Rattle.std.specs.Prelude.{◌||◌, nat_lt, nat_eq, slice_index, Option, Some, None, find as find_in}
 use Rattle.std.specs.Option.{option_map_or}
 use Rattle.std.specs.List.{list_any, flat_map, range_with_len, AllByRecursion}
 use Rattle.std.specs.Ordering.{nat_cmp}
@@ -13,10 +13,10 @@ use Rattle.std.proofs.lemmas.List.Folds.{list_any-append}
 use Rattle.std.proofs.lemmas.Bool.Decides.{nat_tests}
 use Rattle.elf_image.specs.declared.program.Segment.{Segment}
 use Rattle.elf_image.specs.Image.{IsProgram, IsSegment, holds}
-use Rattle.elf_image.specs.Layout.{Setup, mapped, addresses, start_byte, byte_of, layout_of, stack_end}
+use Rattle.elf_image.specs.Layout.{Setup, mapped, addresses, stack_addresses, start_byte, byte_of, heap_start, stack_start}
 use Rattle.flat_machine.specs.declared.regions.Region.{Region}
 use Rattle.flat_machine.specs.Memory.{start_memory}
-use Rattle.flat_machine.specs.Regions.{has_address, memory_of, found, segment_region, zeros_from, start_regions}
+use Rattle.flat_machine.specs.Regions.{has_address, memory_of, found, segment_region, stack_region, zeros_from, start_regions}
 use Rattle.flat_machine.proofs.MemoryLemmas.{tied, untied, here, beyond, same_test, get-memory_of}
 
 -- a list of pairs of addresses with what a function gives them
@@ -107,28 +107,48 @@ joined false false false byte e = refl
 found-zeros : (start len : ℕ) (others : List Region) (q : ℕ) → found (zeros_from start len ∷ others) q ≡ cond (has_address start len q) (Some 0) (found others q)
 found-zeros start len others q = rw (length-replicate {A = ℕ} len 0, zeros_read len (q - start)) refl
 
+-- the regions of stacks, and their addresses
+found-stacks : (w : Setup) (from n q : ℕ) → found (map (stack_region w) (range_with_len from n)) q
+    ≡ cond (list_any (λ tile. has_address (stack_start w tile) w.config.stack_bytes q) (range_with_len from n)) (Some 0) None
+found-stacks w from zero q = refl
+found-stacks w from (suc n) q =
+    found-zeros (stack_start w from) w.config.stack_bytes (map (stack_region w) (range_with_len (from + 1) n)) q
+    ∙ ap (cond {A = Option ℕ} (has_address (stack_start w from) w.config.stack_bytes q) (Some 0)) (found-stacks w (from + 1) n q)
+    ∙ either (has_address (stack_start w from) w.config.stack_bytes q) _
+  where
+    either : (a b : Bool) → cond {A = Option ℕ} a (Some 0) (cond b (Some 0) None) ≡ cond (a || b) (Some 0) None
+    either true b = refl
+    either false b = refl
+
+any-stacks : (w : Setup) (from n q : ℕ) → list_any (nat_eq q) (flat_map (stack_addresses w) (range_with_len from n))
+    ≡ list_any (λ tile. has_address (stack_start w tile) w.config.stack_bytes q) (range_with_len from n)
+any-stacks w from zero q = refl
+any-stacks w from (suc n) q =
+    list_any-append (nat_eq q) (stack_addresses w from) (flat_map (stack_addresses w) (range_with_len (from + 1) n))
+    ∙ any_of_both _ _ _ _ (any-range q w.config.stack_bytes (stack_start w from)) (any-stacks w (from + 1) n q)
+
 -- both memories have the same byte at each address
 pub get-start : (w : Setup) (q : ℕ) → AllByRecursion IsSegment w.image.segments → get (memory_of (start_regions w)) q ≡ get (start_memory w) q
 unfolding start_memory mapped
 get-start w q all =
-    let l = layout_of w.image in
-    let heap : ℕ = l.heap_end - l.heap_start in
-    let stack : ℕ = stack_end w - l.stack_base in
+    let heap : ℕ = w.config.heap_bytes in
+    let tiles : List ℕ = range_with_len 0 w.config.tiles in
     let segments = w.image.segments in
+    let stacks : List Region = map (stack_region w) tiles in
     let is_segment : Bool = list_any (λ s. holds s q) segments in
-    let is_heap : Bool = has_address l.heap_start heap q in
-    let is_stack : Bool = has_address l.stack_base stack q in
+    let is_heap : Bool = has_address (heap_start w) heap q in
+    let is_stack : Bool = list_any (λ tile. has_address (stack_start w tile) w.config.stack_bytes q) tiles in
     let regions : found (start_regions w) q ≡ cond is_segment (Some (segments_byte segments q)) (cond is_heap (Some 0) (cond is_stack (Some 0) None)) =
-    ap (λ rs. found rs q) (append_assoc (map segment_region segments) (zeros_from l.heap_start heap ∷ []) (zeros_from l.stack_base stack ∷ []))
-    ∙ found-segments segments (zeros_from l.heap_start heap ∷ zeros_from l.stack_base stack ∷ []) q all
+    ap (λ rs. found rs q) (append_assoc (map segment_region segments) (zeros_from (heap_start w) heap ∷ []) stacks)
+    ∙ found-segments segments (zeros_from (heap_start w) heap ∷ stacks) q all
     ∙ ap (cond is_segment (Some (segments_byte segments q)))
-    (found-zeros l.heap_start heap (zeros_from l.stack_base stack ∷ []) q ∙ ap (cond is_heap (Some 0)) (found-zeros l.stack_base stack [] q)) in
+    (found-zeros (heap_start w) heap stacks q ∙ ap (cond is_heap (Some 0)) (found-stacks w 0 w.config.tiles q)) in
     let tests : list_any (nat_eq q) (mapped w) ≡ ((is_segment || is_heap) || is_stack) =
-    list_any-append (nat_eq q) (flat_map addresses segments ++ range_with_len l.heap_start heap) (range_with_len l.stack_base stack)
+    list_any-append (nat_eq q) (flat_map addresses segments ++ range_with_len (heap_start w) heap) (flat_map (stack_addresses w) tiles)
     ∙ any_of_both _ _ _ _
-    (list_any-append (nat_eq q) (flat_map addresses segments) (range_with_len l.heap_start heap)
-    ∙ any_of_both _ _ _ _ (any-addresses segments q) (any-range q heap l.heap_start))
-    (any-range q stack l.stack_base) in
+    (list_any-append (nat_eq q) (flat_map addresses segments) (range_with_len (heap_start w) heap)
+    ∙ any_of_both _ _ _ _ (any-addresses segments q) (any-range q heap (heap_start w)))
+    (any-stacks w 0 w.config.tiles q) in
     get-memory_of (start_regions w) q ∙ regions
     ∙ joined is_segment is_heap is_stack (segments_byte segments q) (no_byte segments q)
     ∙ ap (λ t. cond t (Some (start_byte w q)) None) (sym tests)

@@ -1,6 +1,7 @@
 pub mod Memory
 pub mod Regions
 pub mod State
+pub mod Reservation
 pub mod Calls
 pub mod Action
 pub mod Serving

@@ -1,10 +1,10 @@
 -- Memory kept as contiguous regions, and the regions before the program runs.
 use Rattle.std.specs.Prelude.{ℕ, ◌+◌, ◌-◌, Bool, ◌&&◌, nat_le, nat_lt, List, [], ◌∷◌, ◌++◌, length, map, replicate, if◌then◌else◌, slice_index, slice_set, Option, Some, None, unwrap_or}
-use Rattle.std.specs.List.{flat_map}
+use Rattle.std.specs.List.{flat_map, range_with_len}
 use Rattle.std.specs.Ordering.{nat_cmp}
 use Rattle.std.specs.FinMap.{FinMap, from_entries}
 use Rattle.elf_image.specs.declared.program.Segment.{Segment}
-use Rattle.elf_image.specs.Layout.{Setup, layout_of, stack_end}
+use Rattle.elf_image.specs.Layout.{Setup, heap_start, stack_start}
 use Rattle.flat_machine.specs.declared.regions.Region.{Region}
 
 -- whether an address is one of the len addresses from start on
@@ -44,9 +44,12 @@ segment_region s = record { start = s.vaddr; bytes = s.bytes ++ replicate (s.mem
 abbrev pub zeros_from : ℕ → ℕ → Region
 zeros_from start len = record { start = start; bytes = replicate len 0 }
 
--- the segments, the heap window and the stack
+-- the stack of a tile
+abbrev pub stack_region : Setup → ℕ → Region
+stack_region w tile = zeros_from (stack_start w tile) w.config.stack_bytes
+
+-- the segments, the heap window and the stacks
 abbrev pub start_regions : Setup → List Region
 start_regions w =
-    let l = layout_of w.image in
-    map segment_region w.image.segments ++ zeros_from l.heap_start (l.heap_end - l.heap_start) ∷ []
-    ++ zeros_from l.stack_base (stack_end w - l.stack_base) ∷ []
+    map segment_region w.image.segments ++ zeros_from (heap_start w) w.config.heap_bytes ∷ []
+    ++ map (stack_region w) (range_with_len 0 w.config.tiles)

@@ -1,10 +1,11 @@
 ghost use Rattle.std.specs.Prelude.{◌≡◌, ◌%◌, OnOk, OnErr};
 ghost use Rattle.flat_machine.specs.Calls.{answered, called, write_call};
 
-use crate::threads::{Request, Status, Thread};
+use crate::threads::{Status, Thread};
 use elf_image::{Right, World};
 use sim_base::{Bytes, NoMemory};
 use std::alloc::Global;
+use wire_msg::Call;
 
 /// The most bytes that one write call moves.
 const MOST_WRITTEN: u64 = 4096;
@@ -47,12 +48,13 @@ pub(crate) fn call(
         64 => write(alloc, world, thread)?,
         93 => {
             let code = low_byte(thread.regs.get(A0));
+            thread.tile = None;
             thread.status = Status::Left { code };
         }
         94 => {
             let code = low_byte(thread.regs.get(A0));
             thread.status = Status::Asked {
-                request: Request::ExitGroup { code },
+                call: Call::ExitGroup { code },
             };
         }
         124 => answer(thread, 0),

@@ -6,10 +6,12 @@ mod calls;
 mod machine;
 mod moves;
 mod regions;
+mod reservations;
 mod runner;
+mod serving;
 mod threads;
 
 pub use machine::{ActFault, Flat};
 pub use regions::Memory;
-pub use runner::{one_legal_action, run};
-pub use threads::{Request, Status, Thread};
+pub use runner::{one_legal_action, run, trap_has_cause};
+pub use threads::{Joiner, Span, Status, Thread, Waiter};

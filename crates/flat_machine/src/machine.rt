@@ -1,25 +1,16 @@
-ghost use Rattle.std.specs.Prelude.{◌≡◌, IfOk, OnOk, OnErr};
-ghost use Rattle.std.specs.List.{list_any};
-ghost use Rattle.flat_machine.specs.State.{first_thread};
-ghost use Rattle.flat_machine.specs.Serving.{write_answer, output_with, is_live};
+ghost use Rattle.std.specs.Prelude.{◌≡◌, ◌<◌, IfOk, false, length, slice_get};
+ghost use Rattle.std.specs.Option.{option_map};
 
 use crate::moves;
 use crate::regions::Memory;
-use crate::threads::{Request, Status, Thread};
+use crate::reservations::end_others;
+use crate::serving::{end_after, serve_write, take_joiner, wake_joiner};
+use crate::threads::{Joiner, Status, Thread, Waiter};
 use elf_image::World;
-use rv_exec::Regs;
-use sim_base::{Action, Bytes, End, NoMemory};
+use sim_base::{Action, Bytes, End, NoMemory, NodeId};
 use std::alloc::Global;
 use std::marker::Model;
-
-/// The most that a program may output, in bytes.
-const MOST_OUTPUT: usize = 1_048_576;
-
-/// Linux's "no space left", negated: the answer of a write that would pass that.
-const NO_SPACE: u64 = u64::MAX - 27;
-
-/// The stack pointer.
-const SP: u8 = 2;
+use wire_msg::Call;
 
 /// Why an action wasn't made. Either way nothing changed.
 #[derive(Clone, Copy, Debug, PartialEq, Eq)]
@@ -46,6 +37,9 @@ impl From<NoMemory> for ActFault {
 pub struct Flat {
     memory: Memory,
     threads: Vec<Thread>,
+    waiters: Vec<Waiter>,
+    joiners: Vec<Joiner>,
+    heap_break: u64,
     output: Bytes,
     ended: Option<End>,
 }
@@ -59,26 +53,30 @@ impl Model for Flat {
 
     ghost coded = { Prim.hlevel (codes, memory_code) };
 
-    ghost view = { λ f. record { memory = f.memory; threads = f.threads.items; output = f.output; ended = f.ended } };
+    ghost view = { λ f. record { memory = f.memory; threads = f.threads.items; waiters = f.waiters.items; joiners = f.joiners.items; heap_break = f.heap_break; output = f.output; ended = f.ended } };
 }
 
 impl Flat {
     ghost use Rattle.flat_machine.specs.State.{start};
     ghost use Rattle.flat_machine.specs.Memory.{byte_at};
-    ghost use Rattle.flat_machine.specs.Action.{act, with_move, with_instruction, loaded, returned, served_before};
+    ghost use Rattle.flat_machine.specs.Serving.{exit_served};
+    ghost use Rattle.flat_machine.specs.Action.{act, with_move, with_instruction, failed, loaded, returned, begun, is_vacant, served_before};
     ghost use Rattle.flat_machine.specs.Gives.{Acts};
-    ghost use Rattle.flat_machine.specs.Run.{legal_action};
+    ghost use Rattle.flat_machine.specs.Run.{legal_action, onward, IsReady};
 
-    /// The state before the program runs: thread 0 is ready at the image's entry.
+    /// The state before the program runs: thread 0 is ready on tile 0 at the image's entry, with argument 0.
     pub fn start(alloc: Global, world: &World) -> Result<Flat, NoMemory>
         ensures { IfOk result (λ flat. flat ≡ start world.now) }
     {
         let memory = Memory::start(alloc, world)?;
         let mut threads = Vec::new(alloc);
-        threads.push(first_thread(world))?;
+        threads.push(moves::start(world, 0, world.entry(), 0))?;
         Ok(Flat {
             memory,
             threads,
+            waiters: Vec::new(alloc),
+            joiners: Vec::new(alloc),
+            heap_break: world.layout().heap_start,
             output: Bytes::new(alloc, 0)?,
             ended: None,
         })
@@ -90,10 +88,11 @@ impl Flat {
     {
         match *action {
             Action::Exec { thread } => self.exec(alloc, world, thread),
+            Action::FailSc { thread } => self.fail_conditional(world, thread),
             Action::Load { thread } => self.load(thread),
             Action::Serve { thread } => self.serve(thread),
             Action::Return { thread } => self.take_answer(thread),
-            Action::FailSc { .. } | Action::Begin { .. } => Err(ActFault::NotLegal),
+            Action::Begin { thread, tile } => self.begin(world, thread, tile),
         }
     }
 
@@ -105,13 +104,30 @@ impl Flat {
         if index >= self.threads.len() {
             return Err(ActFault::NotLegal);
         }
-        moves::execute(
+        match moves::execute(
             alloc,
             world,
             number,
             &mut self.memory,
             &mut self.threads[index],
-        )
+        ) {
+            Ok(written) => {
+                end_others(&mut self.threads, index, written);
+                Ok(())
+            }
+            Err(fault) => Err(fault),
+        }
+    }
+
+    /// A thread's store-conditional fails.
+    fn fail_conditional(&mut self, world: &World, number: u32) -> Result<(), ActFault>
+        ensures { Acts result self.old self.new (with_move self.old number (failed world.now)) }
+    {
+        let index = number as usize;
+        if index >= self.threads.len() {
+            return Err(ActFault::NotLegal);
+        }
+        moves::fail(world, &mut self.threads[index])
     }
 
     /// A thread reads the next byte of its write call.
@@ -136,7 +152,28 @@ impl Flat {
         moves::take_answer(&mut self.threads[index])
     }
 
-    /// A thread's write, request, exit or trap is served.
+    /// A new thread begins on a tile.
+    fn begin(&mut self, world: &World, number: u32, tile: NodeId) -> Result<(), ActFault>
+        ensures { Acts result self.old self.new (with_move self.old number (begun world.now self.old tile)) }
+    {
+        let index = number as usize;
+        if index >= self.threads.len() {
+            return Err(ActFault::NotLegal);
+        }
+        if !self.is_vacant(world, tile) {
+            return Err(ActFault::NotLegal);
+        }
+        moves::begin(world, tile, &mut self.threads[index])
+    }
+
+    /// Whether a tile is one of the machine's, and no thread stands on it.
+    fn is_vacant(&self, world: &World, tile: NodeId) -> bool
+        ensures { result ≡ is_vacant world.now self.now tile }
+    {
+        (tile as u32) < world.config().tiles && !moves::is_taken(self.threads.as_slice(), tile)
+    }
+
+    /// A thread's write, call, exit or trap is served.
     fn serve(&mut self, number: u32) -> Result<(), ActFault>
         ensures { Acts result self.old self.new (served_before self.old.ended self.old number) }
     {
@@ -153,14 +190,11 @@ impl Flat {
                 self.threads[index].status = Status::Answered { value };
             }
             Status::Asked {
-                request: Request::ExitGroup { code },
+                call: Call::ExitGroup { code },
             } => self.ended = Some(End::Exit { code: *code }),
             Status::Left { code } => {
                 let code = *code;
-                self.threads[index].status = Status::Gone { code };
-                if !any_live(self.threads.as_slice()) {
-                    self.ended = Some(End::Exit { code });
-                }
+                self.serve_exit(number, code);
             }
             Status::Trapped { cause, pc } => {
                 self.ended = Some(End::Trap {
@@ -169,27 +203,52 @@ impl Flat {
                     pc: *pc,
                 });
             }
-            Status::Ready | Status::Answered { .. } | Status::Gone { .. } => {
-                return Err(ActFault::NotLegal);
-            }
+            Status::Asked { .. }
+            | Status::New { .. }
+            | Status::Ready
+            | Status::Parked
+            | Status::Answered { .. }
+            | Status::Gone { .. } => return Err(ActFault::NotLegal),
         }
         Ok(())
     }
 
-    /// The one legal action of a machine of one thread, if it has one.
-    pub fn legal_action(&self) -> Option<Action>
-        ensures { result ≡ legal_action self.now }
+    /// A thread's exit with a code: who slept until then has the code.
+    fn serve_exit(&mut self, number: u32, code: u8)
+        requires { number < length self.old.threads }
+        ensures { option_map (λ t. exit_served self.old number t code) (slice_get self.old.threads number) ≡ Some self.new }
+    {
+        let joiner = take_joiner(&mut self.joiners, number);
+        self.threads[number as usize].status = Status::Gone {
+            code,
+            joined: joiner.is_some(),
+        };
+        wake_joiner(&mut self.threads, joiner, code);
+        self.ended = end_after(self.threads.as_slice(), code);
+    }
+
+    /// The one legal action of a machine of one thread. None where it has none, where it is at a
+    /// store-conditional past the tests of its address, and where its thread hasn't begun.
+    pub fn legal_action(&self, world: &World) -> Option<Action>
+        ensures { result ≡ legal_action world.now self.now }
     {
         let thread = self.threads.first()?;
         match &thread.status {
-            Status::Ready => Some(Action::Exec { thread: 0 }),
+            Status::Ready => {
+                if moves::conditional(world, thread).is_some() {
+                    None
+                } else {
+                    Some(Action::Exec { thread: 0 })
+                }
+            }
             Status::Writing { length, bytes, .. } if (bytes.len() as u64) < *length => {
                 Some(Action::Load { thread: 0 })
             }
             Status::Answered { .. } => Some(Action::Return { thread: 0 }),
-            Status::Gone { .. } => None,
             Status::Writing { .. }
-            | Status::Asked { .. }
+            | Status::Asked {
+                call: Call::ExitGroup { .. },
+            }
             | Status::Left { .. }
             | Status::Trapped { .. } => {
                 if self.ended.is_some() {
@@ -198,6 +257,67 @@ impl Flat {
                     Some(Action::Serve { thread: 0 })
                 }
             }
+            Status::Asked { .. } | Status::New { .. } | Status::Parked | Status::Gone { .. } =>
+                None,
+        }
+    }
+
+    /// Makes the one legal action of a machine of one thread, and answers whether it had one.
+    pub(crate) fn go_on(&mut self, alloc: Global, world: &World) -> Result<bool, NoMemory>
+        ensures onward { IfOk result (λ went. self.new ≡ onward world.now self.old) }
+        ensures still { IfOk result (λ went. went ≡ false → legal_action world.now self.old ≡ None) }
+    {
+        match self.threads.first() {
+            Some(
+                Thread {
+                    status: Status::Ready,
+                    ..
+                },
+            ) => self.go_on_ready(alloc, world),
+            _ => self.go_on_otherwise(alloc, world),
+        }
+    }
+
+    /// The same where thread 0 is ready: its next instruction is made, unless it is a store-conditional that may
+    /// fail.
+    fn go_on_ready(&mut self, alloc: Global, world: &World) -> Result<bool, NoMemory>
+        requires { IsReady self.old }
+        ensures onward { IfOk result (λ went. self.new ≡ onward world.now self.old) }
+        ensures still { IfOk result (λ went. went ≡ false → legal_action world.now self.old ≡ None) }
+    {
+        let meaning = moves::next_meaning(world, &self.threads[0]);
+        if moves::conditional_of(world, &meaning).is_some() {
+            return Ok(false);
+        }
+        match moves::make(
+            alloc,
+            world,
+            0,
+            &mut self.memory,
+            &mut self.threads[0],
+            meaning,
+        ) {
+            Ok(written) => {
+                end_others(&mut self.threads, 0, written);
+                Ok(true)
+            }
+            Err(ActFault::NoMemory) => Err(NoMemory),
+            Err(ActFault::NotLegal) => unreachable!(),
+        }
+    }
+
+    /// The same for any state.
+    fn go_on_otherwise(&mut self, alloc: Global, world: &World) -> Result<bool, NoMemory>
+        ensures onward { IfOk result (λ went. self.new ≡ onward world.now self.old) }
+        ensures still { IfOk result (λ went. went ≡ false → legal_action world.now self.old ≡ None) }
+    {
+        let Some(action) = self.legal_action(world) else {
+            return Ok(false);
+        };
+        match self.act(alloc, world, &action) {
+            Ok(()) => Ok(true),
+            Err(ActFault::NoMemory) => Err(NoMemory),
+            Err(ActFault::NotLegal) => unreachable!(),
         }
     }
 
@@ -220,50 +340,5 @@ impl Flat {
         ensures { result ≡ self.now.ended }
     {
         self.ended
-    }
-}
-
-/// Thread 0 as it begins: at the image's entry, with `sp` 64 bytes below the stack's end and every
-/// other register zero.
-fn first_thread(world: &World) -> Thread
-    ensures { result ≡ first_thread world.now }
-{
-    let mut regs = Regs::new();
-    regs.set(SP, world.stack_end() - 64);
-    Thread {
-        regs,
-        pc: world.entry(),
-        status: Status::Ready,
-    }
-}
-
-/// The output takes the bytes of a write, unless it would be too long. The answer is their number, or the error.
-fn serve_write(output: &mut Bytes, bytes: &Bytes) -> Result<u64, NoMemory>
-    ensures value { IfOk result (λ value. value ≡ write_answer output.old bytes.now) }
-    ensures ok { OnOk result (output.new ≡ output_with output.old bytes.now) }
-    ensures err { OnErr result (output.new ≡ output.old) }
-{
-    let size = bytes.len();
-    if output.len() > MOST_OUTPUT || size > MOST_OUTPUT - output.len() {
-        return Ok(NO_SPACE);
-    }
-    output.extend(bytes.as_slice())?;
-    Ok(size as u64)
-}
-
-/// Whether some thread's exit isn't served yet.
-fn any_live(threads: &[Thread]) -> bool
-    ensures { result ≡ list_any is_live threads.now }
-{
-    threads.iter().any(is_live)
-}
-
-/// Whether a thread's exit isn't served yet.
-fn is_live(thread: &Thread) -> bool
-    ensures { result ≡ is_live thread.now }
-{
-    match thread.status {
-        Status::Gone { .. } => false,
-        _ => true,
     }
 }

@@ -1,13 +1,14 @@
-ghost use Rattle.std.specs.Prelude.{◌≡◌, ◌≤◌, ◌<◌, ◌+◌, ◌-◌, ◌*◌, ◌^◌, if◌then◌else◌, IfOk, IfSome, IsTrue, All, length, map};
+ghost use Rattle.std.specs.Prelude.{◌≡◌, ◌≤◌, ◌<◌, ◌+◌, ◌-◌, ◌*◌, ◌^◌, if◌then◌else◌, ◌++◌, OnOk, IfOk, IfSome, IsTrue, All, length, map};
 ghost use Rattle.elf_image.specs.Image.{IsSegment, IsProgram};
 ghost use Rattle.flat_machine.specs.Memory.{byte_at, with_byte, start_memory};
-ghost use Rattle.flat_machine.specs.Regions.{has_address, byte_of, with_byte_in, segment_region, start_regions};
+ghost use Rattle.flat_machine.specs.Regions.{has_address, byte_of, with_byte_in, segment_region, stack_region, start_regions};
+ghost use Rattle.std.specs.List.{range_with_len};
 ghost use Rattle.rv_exec.specs.Access.{is_size};
 ghost use Rattle.sim_base.specs.LittleEndian.{loaded, with_bytes, stored};
 
 use byteorder::{ByteOrder, LittleEndian};
 use elf_image::{Segment, World};
-use sim_base::{Bytes, NoMemory};
+use sim_base::{Bytes, NoMemory, NodeId};
 use std::alloc::Global;
 use std::marker::Model;
 
@@ -150,24 +151,39 @@ impl Memory {
     }
 }
 
-/// The regions before the program runs: the segments, the heap window and the stack.
+/// The regions before the program runs: the segments, the heap window and the stacks.
 fn start_regions(alloc: Global, world: &World) -> Result<Vec<Region>, NoMemory>
     ensures regions { IfOk result (λ regions. regions.items ≡ start_regions world.now) }
     ensures program { IsProgram world.now.image }
 {
     let mut regions = segment_regions(alloc, world.image().segments())?;
-    let layout = world.layout();
-    let heap = Bytes::zeros(alloc, (layout.heap_end - layout.heap_start) as usize)?;
-    regions.push(Region {
-        start: layout.heap_start,
-        bytes: heap,
-    })?;
-    let stack = Bytes::zeros(alloc, (world.stack_end() - layout.stack_base) as usize)?;
-    regions.push(Region {
-        start: layout.stack_base,
-        bytes: stack,
-    })?;
+    let start = world.layout().heap_start;
+    let bytes = Bytes::zeros(alloc, world.config().heap_bytes as usize)?;
+    regions.push(Region { start, bytes })?;
+    add_stacks(alloc, world, &mut regions)?;
     Ok(regions)
+}
+
+/// Adds a region for each tile's stack.
+fn add_stacks(alloc: Global, world: &World, regions: &mut Vec<Region>) -> Result<(), NoMemory>
+    ensures { OnOk result (regions.new.items ≡ regions.old.items ++ map (stack_region world.now) (range_with_len 0 world.now.config.tiles)) }
+{
+    for tile in 0..world.config().tiles {
+        let region = stack_region(alloc, world, tile)?;
+        regions.push(region)?;
+    }
+    Ok(())
+}
+
+/// The stack of a tile.
+fn stack_region(alloc: Global, world: &World, tile: u32) -> Result<Region, NoMemory>
+    requires { tile < world.now.config.tiles }
+    ensures { IfOk result (λ region. region ≡ stack_region world.now tile) }
+{
+    let size = world.config().stack_bytes;
+    let start = world.stack_end(tile as NodeId) - size;
+    let bytes = Bytes::zeros(alloc, size as usize)?;
+    Ok(Region { start, bytes })
 }
 
 /// A region for each segment.

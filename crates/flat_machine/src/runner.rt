@@ -1,48 +1,33 @@
-ghost use Rattle.std.specs.Prelude.{◌≡◌, IfOk, IsSome, false, length};
-ghost use Rattle.flat_machine.specs.Run.{after, onward, legal_action};
-ghost use Rattle.flat_machine.specs.Action.{act};
-ghost use Rattle.flat_machine.specs.State.{State};
-ghost use Rattle.elf_image.specs.Layout.{Setup};
-ghost use Rattle.sim_base.specs.declared.actions.Action.{Action};
+ghost use Rattle.std.specs.Prelude.{◌≡◌, IfOk};
+ghost use Rattle.flat_machine.specs.Run.{after, MadeIsLegal, LegalIsMade, TrapHasCause};
 
-use crate::machine::{ActFault, Flat};
+use crate::machine::Flat;
 use elf_image::World;
 use sim_base::NoMemory;
 use std::alloc::Global;
 
-/// A law: of a machine of one thread, `legal_action` is its one legal action, and it has none
-/// exactly where nothing is legal.
+/// A law: the action that a run makes is legal; and of a machine of one thread that is at no store-conditional
+/// and has begun, it is the only legal one.
 pub fn one_legal_action()
-    ensures legal { (w : Setup) (s : State) (a : Action) → legal_action s ≡ Some a → IsSome (act w s a) }
-    ensures only { (w : Setup) (s : State) (a : Action) → length s.threads ≡ 1 → IsSome (act w s a) → legal_action s ≡ Some a }
+    ensures legal { MadeIsLegal }
+    ensures only { LegalIsMade }
 {}
 
-/// Runs a program of one thread: its one legal action is made again and again, until there is none
-/// or `most` actions were made.
+/// A law: where a run ended by a trap, the thread's instruction has trapped so in an earlier state of the run.
+pub fn trap_has_cause()
+    ensures { TrapHasCause }
+{}
+
+/// Runs a program of one thread: its one legal action is made again and again, until there is none,
+/// or it comes to a store-conditional, or `most` actions were made.
 pub fn run(alloc: Global, world: &World, most: u64) -> Result<Flat, NoMemory>
     ensures { IfOk result (λ flat. flat ≡ after world.now most) }
 {
     let mut flat = Flat::start(alloc, world)?;
     for _made in 0..most {
-        if !go_on(alloc, world, &mut flat)? {
+        if !flat.go_on(alloc, world)? {
             return Ok(flat);
         }
     }
     Ok(flat)
-}
-
-/// Makes the legal action, if there is one, and answers whether there was.
-#[tactic(auto, using(crate::proofs::LegalLemmas::legal_action_legal))]
-fn go_on(alloc: Global, world: &World, flat: &mut Flat) -> Result<bool, NoMemory>
-    ensures onward { IfOk result (λ went. flat.new ≡ onward world.now flat.old) }
-    ensures still { IfOk result (λ went. went ≡ false → legal_action flat.old ≡ None) }
-{
-    let Some(action) = flat.legal_action() else {
-        return Ok(false);
-    };
-    match flat.act(alloc, world, &action) {
-        Ok(()) => Ok(true),
-        Err(ActFault::NoMemory) => Err(NoMemory),
-        Err(ActFault::NotLegal) => unreachable!(),
-    }
 }

@@ -1,16 +1,24 @@
 use rv_exec::Regs;
-use sim_base::{Bytes, Cause};
+use sim_base::{Bytes, Cause, NodeId};
+use wire_msg::Call;
 
-/// What a thread asks of the control server.
-#[derive(Debug, Drop)]
-pub enum Request {
-    /// To end the whole program with a code.
-    ExitGroup { code: u8 },
+/// A range of bytes in memory.
+#[derive(Clone, Copy, Debug, PartialEq, Eq)]
+pub struct Span {
+    /// Its first address.
+    pub address: u64,
+    /// How many bytes it has.
+    pub size: u8,
 }
 
 /// What a thread is doing.
 #[derive(Drop)]
 pub enum Status {
+    /// It was spawned, to begin at `entry` with `arg`, and stands on no tile yet.
+    New {
+        entry: u64,
+        arg: u64,
+    },
     /// It executes its next instruction.
     Ready,
     /// It reads the bytes of a write call: `length` of them from `address` on, `bytes` so far.
@@ -19,15 +27,17 @@ pub enum Status {
         length: u64,
         bytes: Bytes,
     },
-    /// Its request waits to be served.
+    /// Its call waits to be served.
     Asked {
-        request: Request,
+        call: Call,
     },
+    /// Its call was served, and it sleeps until another thread wakes it.
+    Parked,
     /// Its call was served with this answer.
     Answered {
         value: u64,
     },
-    /// It exited with a code, which isn't served yet.
+    /// It exited with a code, which isn't served yet. It stands on no tile any more.
     Left {
         code: u8,
     },
@@ -36,9 +46,10 @@ pub enum Status {
         cause: Cause,
         pc: u64,
     },
-    /// Its exit was served.
+    /// Its exit was served; whether a thread has joined it.
     Gone {
         code: u8,
+        joined: bool,
     },
 }
 
@@ -49,6 +60,28 @@ pub struct Thread {
     pub regs: Regs,
     /// The address of its next instruction.
     pub pc: u64,
+    /// The tile that it stands on.
+    pub tile: Option<NodeId>,
+    /// What its last load-reserved has reserved, while that stands.
+    pub reservation: Option<Span>,
     /// What it is doing.
     pub status: Status,
+}
+
+/// A futex waiter: a thread that sleeps until another one wakes the word at an address.
+#[derive(Clone, Copy, Debug, PartialEq, Eq)]
+pub struct Waiter {
+    /// The address of the word.
+    pub address: u64,
+    /// The thread.
+    pub thread: u32,
+}
+
+/// A thread that sleeps until another one exits.
+#[derive(Clone, Copy, Debug, PartialEq, Eq)]
+pub struct Joiner {
+    /// The thread that is to exit.
+    pub target: u32,
+    /// The thread that sleeps.
+    pub thread: u32,
 }

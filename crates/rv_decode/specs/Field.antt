@@ -1,6 +1,6 @@
--- The fields and the immediates of a 32-bit instruction word, as numbers. From the RISC-V ISA manual's
--- base instruction formats and immediate encoding variants; bit 0 is the lowest.
-use Rattle.std.specs.Prelude.{ℕ, ◌+◌, ◌-◌, ◌*◌, ◌/◌, ◌%◌, ◌^◌, nat_lt, if◌then◌else◌}
+-- The fields and the immediates of a 32-bit instruction word of RV64IMA, as numbers. From the RISC-V ISA
+-- manual's base instruction formats and immediate encoding variants; bit 0 is the lowest.
+use Rattle.std.specs.Prelude.{ℕ, Bool, ◌+◌, ◌-◌, ◌*◌, ◌/◌, ◌%◌, ◌^◌, ◌==◌, nat_lt, if◌then◌else◌}
 
 -- as many bits as `width` says, from the bit `low` up
 abbrev pub field : ℕ → ℕ → ℕ → ℕ
@@ -38,6 +38,16 @@ amount word = field word 20 6
 
 abbrev pub amount_w : ℕ → ℕ
 amount_w word = field word 20 5
+
+-- an atomic has a code of 5 bits, and two bits that order it with other accesses
+abbrev pub funct5 : ℕ → ℕ
+funct5 word = field word 27 5
+
+abbrev pub aq : ℕ → Bool
+aq word = field word 26 1 == 1
+
+abbrev pub rl : ℕ → Bool
+rl word = field word 25 1 == 1
 
 -- I: bits 31..20
 abbrev pub immediate_i : ℕ → ℕ

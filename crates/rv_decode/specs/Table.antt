@@ -1,11 +1,12 @@
--- Which word is which instruction. From the RISC-V ISA manual's listing of RV32I and RV64I, with the bits
--- as it prints them. A word with no line has no instruction; to add an instruction is to add a line.
-use Rattle.std.specs.Prelude.{ℕ, ◌==◌, if◌then◌else◌, List, [], ◌∷◌, Option, Some, None, option_and_then}
+-- Which word is which instruction. From the RISC-V ISA manual's listing of RV64IMA (RV32I, RV64I and the
+-- extensions M and A), with the bits as it prints them. A word with no line has no instruction; to add an
+-- instruction is to add a line.
+use Rattle.std.specs.Prelude.{ℕ, Bool, true, false, ◌==◌, if◌then◌else◌, List, [], ◌∷◌, Option, Some, None, option_and_then}
 use Rattle.rv_decode.specs.declared.instr.Instr.{Instr}
-use Rattle.rv_decode.specs.declared.instr.Instr.TheVariants.{Upper, Jal, Jalr, Branch, Load, Store, Imm, Shift, Reg, Fence, Ecall, Ebreak}
+use Rattle.rv_decode.specs.declared.instr.Instr.TheVariants.{Upper, Jal, Jalr, Branch, Load, Store, Imm, Shift, Reg, Atomic, Fence, Ecall, Ebreak}
 use Rattle.rv_decode.specs.declared.instr.Op.{Op}
-use Rattle.rv_decode.specs.declared.instr.Op.TheVariants.{Lui, Auipc, Beq, Bne, Blt, Bge, Bltu, Bgeu, Lb, Lh, Lw, Ld, Lbu, Lhu, Lwu, Sb, Sh, Sw, Sd, Addi, Slti, Sltiu, Xori, Ori, Andi, Addiw, Slli, Srli, Srai, Slliw, Srliw, Sraiw, Add, Sll, Slt, Sltu, Xor, Srl, Or, And, Sub, Sra, Addw, Sllw, Srlw, Subw, Sraw}
-use Rattle.rv_decode.specs.Field.{opcode, rd, funct3, rs1, rs2, funct7, funct6, amount, amount_w, immediate_i, immediate_s, immediate_b, immediate_u, immediate_j}
+use Rattle.rv_decode.specs.declared.instr.Op.TheVariants.{Lui, Auipc, Beq, Bne, Blt, Bge, Bltu, Bgeu, Lb, Lh, Lw, Ld, Lbu, Lhu, Lwu, Sb, Sh, Sw, Sd, Addi, Slti, Sltiu, Xori, Ori, Andi, Addiw, Slli, Srli, Srai, Slliw, Srliw, Sraiw, Add, Sll, Slt, Sltu, Xor, Srl, Or, And, Sub, Sra, Addw, Sllw, Srlw, Subw, Sraw, Mul, Mulh, Mulhsu, Mulhu, Div, Divu, Rem, Remu, Mulw, Divw, Divuw, Remw, Remuw, AmoAdd, AmoSwap, Lr, Sc, AmoXor, AmoOr, AmoAnd, AmoMin, AmoMax, AmoMinu, AmoMaxu}
+use Rattle.rv_decode.specs.Field.{opcode, rd, funct3, rs1, rs2, funct7, funct6, funct5, aq, rl, amount, amount_w, immediate_i, immediate_s, immediate_b, immediate_u, immediate_j}
 
 -- a line or some lines of the listing: the instruction that they have for a word, if any
 abbrev pub Lines : Type 0
@@ -50,6 +51,9 @@ shift_w op word = Some (Shift op (rd word) (rs1 word) (amount_w word))
 
 abbrev pub register : Op → Lines
 register op word = Some (Reg op (rd word) (rs1 word) (rs2 word))
+
+abbrev pub atomic : Bool → Op → Lines
+atomic wide op word = Some (Atomic op wide (rd word) (rs1 word) (rs2 word) (aq word) (rl word))
 
 abbrev pub fence : Lines
 fence word = Some (Fence (rd word) (rs1 word) (immediate_i word))
@@ -134,6 +138,19 @@ registers = by funct7
           ∷ (0b101, register Sra)
           ∷ []),
     )
+    ∷ (
+      0b0000001,
+      by funct3
+          ((0b000, register Mul)
+          ∷ (0b001, register Mulh)
+          ∷ (0b010, register Mulhsu)
+          ∷ (0b011, register Mulhu)
+          ∷ (0b100, register Div)
+          ∷ (0b101, register Divu)
+          ∷ (0b110, register Rem)
+          ∷ (0b111, register Remu)
+          ∷ []),
+    )
     ∷ [])
 
 -- opcode 0111011
@@ -154,7 +171,37 @@ registers_w = by funct7
           ∷ (0b101, register Sraw)
           ∷ []),
     )
+    ∷ (
+      0b0000001,
+      by funct3
+          ((0b000, register Mulw)
+          ∷ (0b100, register Divw)
+          ∷ (0b101, register Divuw)
+          ∷ (0b110, register Remw)
+          ∷ (0b111, register Remuw)
+          ∷ []),
+    )
     ∷ [])
+
+-- opcode 0101111 by its width: a load-reserved has no second source, so its rs2 is zero
+unfoldable pub atomics_of : Bool → Lines
+atomics_of wide = by funct5
+    ((0b00000, atomic wide AmoAdd)
+    ∷ (0b00001, atomic wide AmoSwap)
+    ∷ (0b00010, by rs2 ((0, atomic wide Lr) ∷ []))
+    ∷ (0b00011, atomic wide Sc)
+    ∷ (0b00100, atomic wide AmoXor)
+    ∷ (0b01000, atomic wide AmoOr)
+    ∷ (0b01100, atomic wide AmoAnd)
+    ∷ (0b10000, atomic wide AmoMin)
+    ∷ (0b10100, atomic wide AmoMax)
+    ∷ (0b11000, atomic wide AmoMinu)
+    ∷ (0b11100, atomic wide AmoMaxu)
+    ∷ [])
+
+-- opcode 0101111: W on 4 bytes, D on 8
+unfoldable pub atomics : Lines
+atomics = by funct3 ((0b010, atomics_of false) ∷ (0b011, atomics_of true) ∷ [])
 
 -- opcode 0001111
 unfoldable pub fences : Lines
@@ -178,6 +225,7 @@ row = by opcode
     ∷ (0b0011011, constants_w)
     ∷ (0b0110011, registers)
     ∷ (0b0111011, registers_w)
+    ∷ (0b0101111, atomics)
     ∷ (0b0001111, fences)
     ∷ (0b1110011, system)
     ∷ [])

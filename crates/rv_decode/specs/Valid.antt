@@ -1,10 +1,10 @@
--- Which values of `Instr` are instructions: its name belongs to its form, registers are below 32, and
+-- Which values of `Instr` are instructions of RV64IMA: its name belongs to its form, registers are below 32, and
 -- immediates and amounts are such as the form can give. From the RISC-V ISA manual's formats.
 use Rattle.std.specs.Prelude.{ℕ, Bool, true, false, IsTrue, ◌≡◌, ◌<◌, ◌≤◌, ◌-◌, ◌^◌, ◌%◌, ◌⊎◌}
 use Rattle.rv_decode.specs.declared.instr.Instr.{Instr}
-use Rattle.rv_decode.specs.declared.instr.Instr.TheVariants.{Upper, Jal, Jalr, Branch, Load, Store, Imm, Shift, Reg, Fence, Ecall, Ebreak}
+use Rattle.rv_decode.specs.declared.instr.Instr.TheVariants.{Upper, Jal, Jalr, Branch, Load, Store, Imm, Shift, Reg, Atomic, Fence, Ecall, Ebreak}
 use Rattle.rv_decode.specs.declared.instr.Op.{Op}
-use Rattle.rv_decode.specs.declared.instr.Op.TheVariants.{Lui, Auipc, Beq, Bne, Blt, Bge, Bltu, Bgeu, Lb, Lh, Lw, Ld, Lbu, Lhu, Lwu, Sb, Sh, Sw, Sd, Addi, Slti, Sltiu, Xori, Ori, Andi, Addiw, Slli, Srli, Srai, Slliw, Srliw, Sraiw, Add, Sll, Slt, Sltu, Xor, Srl, Or, And, Sub, Sra, Addw, Sllw, Srlw, Subw, Sraw}
+use Rattle.rv_decode.specs.declared.instr.Op.TheVariants.{Lui, Auipc, Beq, Bne, Blt, Bge, Bltu, Bgeu, Lb, Lh, Lw, Ld, Lbu, Lhu, Lwu, Sb, Sh, Sw, Sd, Addi, Slti, Sltiu, Xori, Ori, Andi, Addiw, Slli, Srli, Srai, Slliw, Srliw, Sraiw, Add, Sll, Slt, Sltu, Xor, Srl, Or, And, Sub, Sra, Addw, Sllw, Srlw, Subw, Sraw, Mul, Mulh, Mulhsu, Mulhu, Div, Divu, Rem, Remu, Mulw, Divw, Divuw, Remw, Remuw, AmoAdd, AmoSwap, Lr, Sc, AmoXor, AmoOr, AmoAnd, AmoMin, AmoMax, AmoMinu, AmoMaxu}
 
 -- which names each form has
 abbrev pub is_upper : Op → Bool
@@ -74,7 +74,39 @@ is_register Sllw = true
 is_register Srlw = true
 is_register Subw = true
 is_register Sraw = true
+is_register Mul = true
+is_register Mulh = true
+is_register Mulhsu = true
+is_register Mulhu = true
+is_register Div = true
+is_register Divu = true
+is_register Rem = true
+is_register Remu = true
+is_register Mulw = true
+is_register Divw = true
+is_register Divuw = true
+is_register Remw = true
+is_register Remuw = true
 is_register _ = false
+
+abbrev pub is_atomic : Op → Bool
+is_atomic AmoAdd = true
+is_atomic AmoSwap = true
+is_atomic Lr = true
+is_atomic Sc = true
+is_atomic AmoXor = true
+is_atomic AmoOr = true
+is_atomic AmoAnd = true
+is_atomic AmoMin = true
+is_atomic AmoMax = true
+is_atomic AmoMinu = true
+is_atomic AmoMaxu = true
+is_atomic _ = false
+
+-- a load-reserved has no second source: its register's number is zero
+abbrev pub IsSource : Op → ℕ → Type 0
+IsSource Lr rs2 = rs2 ≡ 0
+IsSource _ rs2 = rs2 < 32
 
 -- a signed number of so many bits, seen modulo 2 ^ 64: below half their range, or at most that far below 2 ^ 64
 abbrev pub IsSigned : ℕ → ℕ → Type 0
@@ -91,6 +123,7 @@ IsValid (Store op rs1 rs2 imm) = IsTrue (is_store op) × (rs1 < 32) × (rs2 < 32
 IsValid (Imm op rd rs1 imm) = IsTrue (is_immediate op) × (rd < 32) × (rs1 < 32) × IsSigned 12 imm
 IsValid (Shift op rd rs1 amount) = IsAmount op amount × (rd < 32) × (rs1 < 32)
 IsValid (Reg op rd rs1 rs2) = IsTrue (is_register op) × (rd < 32) × (rs1 < 32) × (rs2 < 32)
+IsValid (Atomic op wide rd rs1 rs2 aq rl) = IsTrue (is_atomic op) × (rd < 32) × (rs1 < 32) × IsSource op rs2
 IsValid (Fence rd rs1 imm) = (rd < 32) × (rs1 < 32) × IsSigned 12 imm
 IsValid Ecall = Unit {0}
 IsValid Ebreak = Unit {0}

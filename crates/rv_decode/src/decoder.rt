@@ -1,18 +1,18 @@
 //! The listing of instructions: one function for each opcode with more than one, by its codes.
 
 ghost use Rattle.std.specs.Prelude.{◌≡◌, Some, IsTrue, IfSome};
-ghost use Rattle.rv_decode.specs.Table.{row, upper, jump, jump_register, branch, load, store, constant, shift, shift_w, register, fence, jumps, branches, loads, stores, constants, constants_w, registers, registers_w, fences, system};
-ghost use Rattle.rv_decode.specs.Field.{amount, amount_w};
-ghost use Rattle.rv_decode.specs.Valid.{IsValid, is_upper, is_branch, is_load, is_store, is_immediate, is_register, IsAmount};
+ghost use Rattle.rv_decode.specs.Table.{row, upper, jump, jump_register, branch, load, store, constant, shift, shift_w, register, atomic, fence, jumps, branches, loads, stores, constants, constants_w, registers, registers_w, atomics, atomics_of, fences, system};
+ghost use Rattle.rv_decode.specs.Field.{amount, amount_w, rs2};
+ghost use Rattle.rv_decode.specs.Valid.{IsValid, is_upper, is_branch, is_load, is_store, is_immediate, is_register, is_atomic, IsAmount, IsSource};
 
 use crate::fields::{
-    amount, amount_w, funct3, funct6, funct7, immediate_b, immediate_i, immediate_j, immediate_s,
-    immediate_u, opcode, rd, rs1, rs2,
+    amount, amount_w, aq, funct3, funct5, funct6, funct7, immediate_b, immediate_i, immediate_j,
+    immediate_s, immediate_u, opcode, rd, rl, rs1, rs2,
 };
 use crate::instr::{Instr, Op};
 
-/// The instruction that a word of 32 bits is by the RISC-V ISA manual: RV64I.
-/// `None`: it is none of them, the zero word among others.
+/// The instruction that a word of 32 bits is by the RISC-V ISA manual: RV64IMA, which is RV64I with the
+/// extensions M and A. `None`: it is none of them, the zero word among others.
 #[tactic(auto, unfolding(crate::specs::Table::row))]
 pub fn decode(word: u32) -> Option<Instr>
     ensures row { result ≡ row word }
@@ -30,6 +30,7 @@ pub fn decode(word: u32) -> Option<Instr>
         0b001_1011 => constants_w(word),
         0b011_0011 => registers(word),
         0b011_1011 => registers_w(word),
+        0b010_1111 => atomics(word),
         0b000_1111 => fences(word),
         0b111_0011 => system(word),
         _ => None,
@@ -143,6 +144,14 @@ fn registers(word: u32) -> Option<Instr>
         (0b000_0000, 0b111) => Some(register(Op::And, word)),
         (0b010_0000, 0b000) => Some(register(Op::Sub, word)),
         (0b010_0000, 0b101) => Some(register(Op::Sra, word)),
+        (0b000_0001, 0b000) => Some(register(Op::Mul, word)),
+        (0b000_0001, 0b001) => Some(register(Op::Mulh, word)),
+        (0b000_0001, 0b010) => Some(register(Op::Mulhsu, word)),
+        (0b000_0001, 0b011) => Some(register(Op::Mulhu, word)),
+        (0b000_0001, 0b100) => Some(register(Op::Div, word)),
+        (0b000_0001, 0b101) => Some(register(Op::Divu, word)),
+        (0b000_0001, 0b110) => Some(register(Op::Rem, word)),
+        (0b000_0001, 0b111) => Some(register(Op::Remu, word)),
         _ => None,
     }
 }
@@ -158,6 +167,44 @@ fn registers_w(word: u32) -> Option<Instr>
         (0b000_0000, 0b101) => Some(register(Op::Srlw, word)),
         (0b010_0000, 0b000) => Some(register(Op::Subw, word)),
         (0b010_0000, 0b101) => Some(register(Op::Sraw, word)),
+        (0b000_0001, 0b000) => Some(register(Op::Mulw, word)),
+        (0b000_0001, 0b100) => Some(register(Op::Divw, word)),
+        (0b000_0001, 0b101) => Some(register(Op::Divuw, word)),
+        (0b000_0001, 0b110) => Some(register(Op::Remw, word)),
+        (0b000_0001, 0b111) => Some(register(Op::Remuw, word)),
+        _ => None,
+    }
+}
+
+#[tactic(auto, unfolding(crate::specs::Table::atomics))]
+fn atomics(word: u32) -> Option<Instr>
+    ensures row { result ≡ atomics word }
+    ensures valid { IfSome result IsValid }
+{
+    match funct3(word) {
+        0b010 => atomics_of(false, word),
+        0b011 => atomics_of(true, word),
+        _ => None,
+    }
+}
+
+#[tactic(auto, unfolding(crate::specs::Table::atomics_of))]
+fn atomics_of(wide: bool, word: u32) -> Option<Instr>
+    ensures row { result ≡ atomics_of wide word }
+    ensures valid { IfSome result IsValid }
+{
+    match (funct5(word), rs2(word)) {
+        (0b0_0000, _) => Some(atomic(Op::AmoAdd, wide, word)),
+        (0b0_0001, _) => Some(atomic(Op::AmoSwap, wide, word)),
+        (0b0_0010, 0) => Some(atomic(Op::Lr, wide, word)),
+        (0b0_0011, _) => Some(atomic(Op::Sc, wide, word)),
+        (0b0_0100, _) => Some(atomic(Op::AmoXor, wide, word)),
+        (0b0_1000, _) => Some(atomic(Op::AmoOr, wide, word)),
+        (0b0_1100, _) => Some(atomic(Op::AmoAnd, wide, word)),
+        (0b1_0000, _) => Some(atomic(Op::AmoMin, wide, word)),
+        (0b1_0100, _) => Some(atomic(Op::AmoMax, wide, word)),
+        (0b1_1000, _) => Some(atomic(Op::AmoMinu, wide, word)),
+        (0b1_1100, _) => Some(atomic(Op::AmoMaxu, wide, word)),
         _ => None,
     }
 }
@@ -308,6 +355,24 @@ fn register(op: Op, word: u32) -> Instr
         rd: rd(word),
         rs1: rs1(word),
         rs2: rs2(word),
+    }
+}
+
+/// An atomic of 8 bytes or of 4.
+fn atomic(op: Op, wide: bool, word: u32) -> Instr
+    requires known { IsTrue (is_atomic op) }
+    requires source { IsSource op (rs2 word) }
+    ensures row { Some result ≡ atomic wide op word }
+    ensures valid { IsValid result }
+{
+    Instr::Atomic {
+        op,
+        wide,
+        rd: rd(word),
+        rs1: rs1(word),
+        rs2: rs2(word),
+        aq: aq(word),
+        rl: rl(word),
     }
 }
 

@@ -1,7 +1,7 @@
 //! The fields and the immediates of an instruction word, as the RISC-V ISA manual lays them out.
 
 ghost use Rattle.std.specs.Prelude.{◌≡◌, ◌+◌, ◌%◌, ◌^◌, ◌<◌, ◌≤◌};
-ghost use Rattle.rv_decode.specs.Field.{extended, opcode, rd, funct3, rs1, rs2, funct7, funct6, amount, amount_w, immediate_i, immediate_s, immediate_b, immediate_u, immediate_j};
+ghost use Rattle.rv_decode.specs.Field.{extended, opcode, rd, funct3, rs1, rs2, funct7, funct6, funct5, aq, rl, amount, amount_w, immediate_i, immediate_s, immediate_b, immediate_u, immediate_j};
 ghost use Rattle.rv_decode.specs.Valid.{IsSigned};
 
 /// Bits 6 to 0.
@@ -54,6 +54,27 @@ pub fn funct6(word: u32) -> u32
     ensures value { result ≡ funct6 word }
 {
     word >> 26
+}
+
+/// Bits 31 to 27, the code of an atomic.
+pub fn funct5(word: u32) -> u32
+    ensures value { result ≡ funct5 word }
+{
+    word >> 27
+}
+
+/// Bit 26, with which an atomic acquires.
+pub fn aq(word: u32) -> bool
+    ensures value { result ≡ aq word }
+{
+    word >> 26 & 1 == 1
+}
+
+/// Bit 25, with which an atomic releases.
+pub fn rl(word: u32) -> bool
+    ensures value { result ≡ rl word }
+{
+    word >> 25 & 1 == 1
 }
 
 /// How far a constant shifts 64 bits, bits 25 to 20.

@@ -1,4 +1,4 @@
-//! From 32-bit words to RV64I instructions. The listing of the RISC-V ISA manual stands in
+//! From 32-bit words to RV64IMA instructions. The listing of the RISC-V ISA manual stands in
 //! `specs/Table.antt`, and `decode` is proved to follow it, word for word.
 #![tactic(auto)]
 

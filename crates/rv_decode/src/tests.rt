@@ -1,4 +1,4 @@
-//! The words are what LLVM's assembler (`llvm-mc -triple=riscv64`) writes for the line beside each.
+//! The words are what LLVM's assembler (`llvm-mc -triple=riscv64 -mattr=+m,+a`) writes for the line beside each.
 
 use crate::{Instr, Op, decode};
 
@@ -184,6 +184,90 @@ fn registers(rt: HostRuntime) {
 }
 
 #[test]
+fn multiplications_and_divisions(rt: HostRuntime) {
+    let table = [
+        (0x02c5_8533, Op::Mul, 10, 11, 12), // mul a0, a1, a2
+        (0x02c5_9533, Op::Mulh, 10, 11, 12), // mulh a0, a1, a2
+        (0x02c5_a533, Op::Mulhsu, 10, 11, 12), // mulhsu a0, a1, a2
+        (0x02c5_b533, Op::Mulhu, 10, 11, 12), // mulhu a0, a1, a2
+        (0x02c5_c533, Op::Div, 10, 11, 12), // div a0, a1, a2
+        (0x02c5_d533, Op::Divu, 10, 11, 12), // divu a0, a1, a2
+        (0x02c5_e533, Op::Rem, 10, 11, 12), // rem a0, a1, a2
+        (0x03ff_7eb3, Op::Remu, 29, 30, 31), // remu t4, t5, t6
+        (0x02c5_853b, Op::Mulw, 10, 11, 12), // mulw a0, a1, a2
+        (0x02c5_c53b, Op::Divw, 10, 11, 12), // divw a0, a1, a2
+        (0x02c5_d53b, Op::Divuw, 10, 11, 12), // divuw a0, a1, a2
+        (0x02c5_e53b, Op::Remw, 10, 11, 12), // remw a0, a1, a2
+        (0x02c5_f53b, Op::Remuw, 10, 11, 12), // remuw a0, a1, a2
+    ];
+    for (word, op, rd, rs1, rs2) in table {
+        assert_eq!(rt;
+            decode(word),
+            Some(Instr::Reg { op, rd, rs1, rs2 }),
+            "at {word:#010x}"
+        );
+    }
+}
+
+#[test]
+fn memory_operations(rt: HostRuntime) {
+    let table = [
+        (0x00b6_252f, Op::AmoAdd, false), // amoadd.w a0, a1, (a2)
+        (0x08b6_352f, Op::AmoSwap, true), // amoswap.d a0, a1, (a2)
+        (0x20b6_252f, Op::AmoXor, false), // amoxor.w a0, a1, (a2)
+        (0x40b6_352f, Op::AmoOr, true), // amoor.d a0, a1, (a2)
+        (0x60b6_252f, Op::AmoAnd, false), // amoand.w a0, a1, (a2)
+        (0x80b6_352f, Op::AmoMin, true), // amomin.d a0, a1, (a2)
+        (0xa0b6_252f, Op::AmoMax, false), // amomax.w a0, a1, (a2)
+        (0xc0b6_352f, Op::AmoMinu, true), // amominu.d a0, a1, (a2)
+        (0xe0b6_252f, Op::AmoMaxu, false), // amomaxu.w a0, a1, (a2)
+    ];
+    for (word, op, wide) in table {
+        assert_eq!(rt;
+            decode(word),
+            Some(Instr::Atomic {
+                op,
+                wide,
+                rd: 10,
+                rs1: 12,
+                rs2: 11,
+                aq: false,
+                rl: false
+            }),
+            "at {word:#010x}"
+        );
+    }
+}
+
+#[test]
+fn pairs_and_orders(rt: HostRuntime) {
+    let table = [
+        (0x1005_b52f, Op::Lr, true, 10, 11, 0, false, false), // lr.d a0, (a1)
+        (0x1605_a52f, Op::Lr, false, 10, 11, 0, true, true), // lr.w.aqrl a0, (a1)
+        (0x18d5_b62f, Op::Sc, true, 12, 11, 13, false, false), // sc.d a2, a3, (a1)
+        (0x1ab6_252f, Op::Sc, false, 10, 12, 11, false, true), // sc.w.rl a0, a1, (a2)
+        (0x0cb6_252f, Op::AmoSwap, false, 10, 12, 11, true, false), // amoswap.w.aq a0, a1, (a2)
+        (0x0099_302f, Op::AmoAdd, true, 0, 18, 9, false, false), // amoadd.d zero, s1, (s2)
+        (0xe7ee_bfaf, Op::AmoMaxu, true, 31, 29, 30, true, true), // amomaxu.d.aqrl t6, t5, (t4)
+    ];
+    for (word, op, wide, rd, rs1, rs2, aq, rl) in table {
+        assert_eq!(rt;
+            decode(word),
+            Some(Instr::Atomic {
+                op,
+                wide,
+                rd,
+                rs1,
+                rs2,
+                aq,
+                rl
+            }),
+            "at {word:#010x}"
+        );
+    }
+}
+
+#[test]
 fn fences_and_calls(rt: HostRuntime) {
     let fences = [
         (0x0ff0_000f, 0xff), // fence iorw, iorw
@@ -208,9 +292,6 @@ fn other_words_have_no_instruction(rt: HostRuntime) {
         0x0005_f503, // a load with funct3 111
         0x00a5_c023, // a store with funct3 100
         0x00a5_f023, // a store with funct3 111
-        0x02c5_8533, // mul a0, a1, a2
-        0x02c5_853b, // mulw a0, a1, a2
-        0x00b6_252f, // amoadd.w a0, a1, (a2)
         0x3005_9573, // csrrw a0, mstatus, a1
         0x0000_100f, // fence.i
         0x3020_0073, // mret
@@ -224,6 +305,26 @@ fn other_words_have_no_instruction(rt: HostRuntime) {
         0x80c5_8533, // add with bit 31
         0x40c5_a533, // slt with sub's code
         0x00c5_a53b, // addw with funct3 010
+    ];
+    for word in words {
+        assert_eq!(rt; decode(word), None, "at {word:#010x}");
+    }
+}
+
+#[test]
+fn other_words_beside_the_extensions(rt: HostRuntime) {
+    let words = [
+        0x02c5_953b, // mulw with mulh's code
+        0x02c5_a53b, // mulw with mulhsu's code
+        0x02c5_b53b, // mulw with mulhu's code
+        0x06c5_8533, // mul with bit 26
+        0x42c5_d533, // divu with sra's bit
+        0x1015_b52f, // lr.d with a second source
+        0x17f5_a52f, // lr.w.aqrl with a second source
+        0x00b6_052f, // amoadd with funct3 000
+        0x00b6_452f, // amoadd with funct3 100
+        0x28b6_252f, // an atomic with the code 00101
+        0x88b6_352f, // an atomic with the code 10001
     ];
     for word in words {
         assert_eq!(rt; decode(word), None, "at {word:#010x}");

@@ -1,16 +1,18 @@
--- What each instruction does to the registers and the pc. From the RISC-V ISA manual, RV32I and RV64I.
+-- What each instruction does to the registers and the pc. From the RISC-V ISA manual, RV32I, RV64I, and
+-- the extensions M and A.
 use Rattle.std.specs.Prelude.{ℕ, ◌%◌, ◌^◌, ◌<◌, Bool, false, not, List, nat_lt, ◌==◌, if◌then◌else◌, bit_and, bit_or, bit_xor}
 use Rattle.rv_decode.specs.declared.instr.Instr.{Instr}
-use Rattle.rv_decode.specs.declared.instr.Instr.TheVariants.{Upper, Jal, Jalr, Branch, Load, Store, Imm, Shift, Reg, Fence, Ecall, Ebreak}
+use Rattle.rv_decode.specs.declared.instr.Instr.TheVariants.{Upper, Jal, Jalr, Branch, Load, Store, Imm, Shift, Reg, Atomic, Fence, Ecall, Ebreak}
 use Rattle.rv_decode.specs.declared.instr.Op.{Op}
-use Rattle.rv_decode.specs.declared.instr.Op.TheVariants.{Lui, Auipc, Beq, Bne, Blt, Bge, Bltu, Bgeu, Addi, Slti, Sltiu, Xori, Ori, Andi, Addiw, Slli, Srli, Srai, Slliw, Srliw, Sraiw, Add, Sll, Slt, Sltu, Xor, Srl, Or, And, Sub, Sra, Addw, Sllw, Srlw, Subw, Sraw}
+use Rattle.rv_decode.specs.declared.instr.Op.TheVariants.{Lui, Auipc, Beq, Bne, Blt, Bge, Bltu, Bgeu, Addi, Slti, Sltiu, Xori, Ori, Andi, Addiw, Slli, Srli, Srai, Slliw, Srliw, Sraiw, Add, Sll, Slt, Sltu, Xor, Srl, Or, And, Sub, Sra, Addw, Sllw, Srlw, Subw, Sraw, Mul, Mulh, Mulhsu, Mulhu, Div, Divu, Rem, Remu, Mulw, Divw, Divuw, Remw, Remuw, Lr}
 use Rattle.sim_base.specs.declared.ends.Cause.{Cause}
 use Rattle.sim_base.specs.declared.ends.Cause.TheVariants.{InstrMisaligned, LoadMisaligned, StoreMisaligned, Breakpoint}
 use Rattle.rv_exec.specs.declared.meaning.Meaning.{Meaning}
 use Rattle.rv_exec.specs.declared.meaning.Meaning.TheVariants.{Next, Access, Call, Trap}
 use Rattle.rv_exec.specs.Registers.{register}
-use Rattle.rv_exec.specs.Access.{Asked, IsAccess, load_of, store_of}
-use Rattle.rv_exec.specs.Arithmetic.{wrapping_sum, wrapping_difference, signed_lt, truth, even_address, left_shift, logical_shift, arithmetic_shift, word_sum, word_difference, word_left_shift, word_logical_shift, word_arithmetic_shift}
+use Rattle.rv_exec.specs.Access.{Asked, IsAccess, load_of, store_of, atomic_of}
+use Rattle.rv_exec.specs.Arithmetic.{wrapping_sum, wrapping_difference, signed_lt, truth, even_address, left_shift, logical_shift, arithmetic_shift, word_sum, word_difference, word_left_shift, word_logical_shift, word_arithmetic_shift, wrapping_product, word_product, signed_high_product, mixed_high_product, unsigned_high_product, signed_quotient, unsigned_quotient, signed_remainder, unsigned_remainder, on_words}
+use Rattle.std.specs.Int.{w32, w64}
 
 -- what LUI and AUIPC write to rd. In each table below the last row is for names of other forms, which don't
 -- stand in a valid instruction of this form
@@ -67,6 +69,19 @@ register_value Subw a b = word_difference a b
 register_value Sllw a b = word_left_shift a (b % 2 ^ 5)
 register_value Srlw a b = word_logical_shift a (b % 2 ^ 5)
 register_value Sraw a b = word_arithmetic_shift a (b % 2 ^ 5)
+register_value Mul a b = wrapping_product a b
+register_value Mulh a b = signed_high_product a b
+register_value Mulhsu a b = mixed_high_product a b
+register_value Mulhu a b = unsigned_high_product a b
+register_value Div a b = signed_quotient w64 a b
+register_value Divu a b = unsigned_quotient w64 a b
+register_value Rem a b = signed_remainder w64 a b
+register_value Remu a b = unsigned_remainder a b
+register_value Mulw a b = word_product a b
+register_value Divw a b = on_words (signed_quotient w32) a b
+register_value Divuw a b = on_words (unsigned_quotient w32) a b
+register_value Remw a b = on_words (signed_remainder w32) a b
+register_value Remuw a b = on_words unsigned_remainder a b
 register_value _ a b = 0
 
 -- a value for rd, and on with the next instruction
@@ -80,6 +95,12 @@ jump rd value target = if target % 4 == 0 then Next rd value target else Trap In
 -- an access to memory: its address is a multiple of its size, or it traps
 abbrev pub access_or_trap : Asked → Cause → Meaning
 access_or_trap access cause = if access.addr % access.size == 0 then Access access else Trap cause
+
+-- where an atomic's address isn't a multiple of its size: a load-reserved counts as a load, all others as
+-- stores
+abbrev pub misaligned_atomic : Op → Cause
+misaligned_atomic Lr = LoadMisaligned
+misaligned_atomic _ = StoreMisaligned
 
 -- what an instruction at pc does, by what the registers hold
 abbrev pub effect_of : Instr → List ℕ → ℕ → Meaning
@@ -95,6 +116,8 @@ effect_of (Store op rs1 rs2 imm) regs pc =
 effect_of (Imm op rd rs1 imm) regs pc = advance rd (immediate_value op (register regs rs1) imm) pc
 effect_of (Shift op rd rs1 amount) regs pc = advance rd (shift_value op (register regs rs1) amount) pc
 effect_of (Reg op rd rs1 rs2) regs pc = advance rd (register_value op (register regs rs1) (register regs rs2)) pc
+effect_of (Atomic op wide rd rs1 rs2 aq rl) regs pc =
+    access_or_trap (atomic_of op wide rd (register regs rs1) (register regs rs2)) (misaligned_atomic op)
 effect_of (Fence rd rs1 imm) regs pc = advance 0 0 pc
 effect_of Ecall regs pc = Call
 effect_of Ebreak regs pc = Trap Breakpoint

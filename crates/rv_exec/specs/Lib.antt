@@ -3,3 +3,4 @@ pub mod Registers
 pub mod Arithmetic
 pub mod Access
 pub mod Effect
+pub mod Class

@@ -1,9 +1,34 @@
 ghost use Rattle.std.specs.Prelude.{◌≡◌, ◌*◌, ◌^◌, ◌<◌, IsTrue};
 ghost use Rattle.rv_decode.specs.Field.{extended};
-ghost use Rattle.rv_exec.specs.Access.{IsAccess, is_size, low_bytes, finish_of};
+ghost use Rattle.rv_exec.specs.Access.{IsAccess, is_size, is_atomic_size, low_bytes, as_read, amo_value, width_of, finish_of};
 
-use crate::values::sign_extended;
+use crate::atomics::{new_double, new_word};
+use crate::values::{sign_extended, word};
 use std::marker::Model;
+
+/// An atomic memory operation: what it writes, by the old number and its own. From the extension A of the
+/// RISC-V ISA manual.
+#[derive(Clone, Copy, Debug, PartialEq, Eq)]
+pub enum AmoOp {
+    /// Their sum, modulo 2^32 for 4 bytes and 2^64 for 8.
+    Add,
+    /// Its own number.
+    Swap,
+    /// The bits that one of them has.
+    Xor,
+    /// The bits that either or both have.
+    Or,
+    /// The bits that both have.
+    And,
+    /// The lesser, both signed.
+    Min,
+    /// The greater, both signed.
+    Max,
+    /// The lesser, both unsigned.
+    Minu,
+    /// The greater, both unsigned.
+    Maxu,
+}
 
 /// What a memory access does.
 #[derive(Clone, Copy, Debug, PartialEq, Eq)]
@@ -12,22 +37,28 @@ pub enum AccessOp {
     Load,
     /// It writes.
     Store,
+    /// It reads, and reserves: a store-conditional may succeed later.
+    Lr,
+    /// It writes where the reservation still stands. Whether it does is for the machine to say.
+    Sc,
+    /// It reads, and writes what the operation makes of the old number and its own, in one step.
+    Amo { op: AmoOp },
 }
 
 /// One access to memory that an instruction asks for. Its address is a multiple of its size.
 #[derive(Clone, Copy, Debug, PartialEq, Eq)]
 pub struct Access {
-    /// Whether it reads or writes.
+    /// Whether it reads, writes or both.
     pub op: AccessOp,
-    /// The register that gets what is read, below 32; 0 for a store.
+    /// The register that gets what the access gives, below 32; 0 for a store.
     pub rd: u8,
     /// The address of its first byte.
     pub addr: u64,
-    /// How many bytes it has: 1, 2, 4 or 8.
+    /// How many bytes it has: 1, 2, 4 or 8, and for an atomic 4 or 8.
     pub size: u8,
     /// Whether what is read is a signed number.
     pub signed: bool,
-    /// What is stored, in its low `size` bytes; 0 for a load.
+    /// What is stored, or an atomic's own number, in its low `size` bytes; 0 for a load.
     pub value: u64,
 }
 
@@ -44,7 +75,7 @@ impl Model for Access {
 }
 
 impl Access {
-    /// Whether it reads or writes.
+    /// Whether it reads, writes or both.
     pub fn op(&self) -> AccessOp
         ensures value { result ≡ self.now.op }
         ensures known { IsAccess self.now }
@@ -52,7 +83,7 @@ impl Access {
         self.op
     }
 
-    /// The register that gets what is read, below 32; 0 for a store.
+    /// The register that gets what the access gives, below 32; 0 for a store.
     pub fn rd(&self) -> u8
         ensures value { result ≡ self.now.rd }
         ensures known { IsAccess self.now }
@@ -68,7 +99,7 @@ impl Access {
         self.addr
     }
 
-    /// How many bytes it has: 1, 2, 4 or 8.
+    /// How many bytes it has: 1, 2, 4 or 8, and for an atomic 4 or 8.
     pub fn size(&self) -> u8
         ensures value { result ≡ self.now.size }
         ensures known { IsAccess self.now }
@@ -80,31 +111,60 @@ impl Access {
 /// What an access gives: what `rd` gets, and what is written, if anything.
 #[derive(Clone, Copy, Debug, PartialEq, Eq)]
 pub struct Done {
-    /// What `rd` gets; 0 for a store, whose `rd` is 0.
+    /// What `rd` gets; 0 for a store, whose `rd` is 0, and for a store-conditional, which then succeeded.
     pub value: u64,
     /// The number that the access's bytes hold afterwards, where it writes them.
     pub write: Option<u64>,
 }
 
 /// What an access gives where its bytes hold the number `old`. Numbers in memory are little-endian, and
-/// have as many bytes as the access. The rules are those of the RISC-V ISA manual.
+/// have as many bytes as the access. A store-conditional is taken to succeed: it gives 0 and writes. The
+/// rules are those of the RISC-V ISA manual.
 pub fn finish(access: &Access, old: u64) -> Done
     requires { old < 2 ^ (8 * access.now.size) }
     ensures { result ≡ finish_of access.now old }
 {
     match access.op {
-        AccessOp::Load => {
-            let value = if access.signed {
-                with_sign(old, access.size)
-            } else {
-                old
-            };
+        AccessOp::Load | AccessOp::Lr => {
+            let value = as_read(access, old);
             Done { value, write: None }
         }
-        AccessOp::Store => {
+        AccessOp::Store | AccessOp::Sc => {
             let write = Some(low_part(access.value, access.size));
             Done { value: 0, write }
         }
+        AccessOp::Amo { op } => {
+            let new = new_number(op, old, access.value, access.size);
+            Done {
+                value: as_read(access, old),
+                write: Some(new),
+            }
+        }
+    }
+}
+
+/// What is read where an access's bytes hold the number `old`: with its sign, where it has one.
+fn as_read(access: &Access, old: u64) -> u64
+    requires { old < 2 ^ (8 * access.now.size) }
+    ensures { result ≡ as_read access.now old }
+{
+    if access.signed {
+        with_sign(old, access.size)
+    } else {
+        old
+    }
+}
+
+/// What an atomic memory operation on `size` bytes writes over the number `old`.
+fn new_number(op: AmoOp, old: u64, value: u64, size: u8) -> u64
+    requires sized { IsTrue (is_atomic_size size) }
+    requires fits { old < 2 ^ (8 * size) }
+    ensures { result ≡ amo_value (width_of size) op old (low_bytes size value) }
+{
+    match size {
+        4 => u64::from(new_word(op, old as u32, word(value))),
+        8 => new_double(op, old, value),
+        _ => unreachable!(),
     }
 }
 

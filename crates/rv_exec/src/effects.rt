@@ -1,11 +1,12 @@
 ghost use Rattle.std.specs.Prelude.{◌≡◌, ◌<◌, ◌%◌, ◌==◌, IsTrue};
-ghost use Rattle.rv_decode.specs.Valid.{IsValid, is_load, is_store};
+ghost use Rattle.rv_decode.specs.Valid.{IsValid, is_load, is_store, is_atomic};
 ghost use Rattle.sim_base.specs.declared.ends.Cause.TheVariants.{LoadMisaligned, StoreMisaligned};
 ghost use Rattle.rv_exec.specs.Arithmetic.{even_address};
-ghost use Rattle.rv_exec.specs.Access.{load_of, store_of, size_of, is_signed};
-ghost use Rattle.rv_exec.specs.Effect.{effect_of, jump, advance, access_or_trap, HasRegister, HasAccess};
+ghost use Rattle.rv_exec.specs.Access.{load_of, store_of, atomic_of, size_of, is_signed};
+ghost use Rattle.rv_exec.specs.Effect.{effect_of, jump, advance, access_or_trap, misaligned_atomic, HasRegister, HasAccess};
 
 use crate::access::{Access, AccessOp};
+use crate::atomics::kind_of_atomic;
 use crate::meaning::Meaning;
 use crate::registers::Regs;
 use crate::values::{
@@ -19,8 +20,8 @@ use sim_base::Cause;
 /// rules are those of the RISC-V ISA manual; arithmetic is modulo 2^64, addresses included.
 ///
 /// A jump, or a branch that is taken, to an address that isn't a multiple of 4 traps; a branch
-/// that isn't taken goes on, whatever its target. A load or a store whose address isn't a multiple
-/// of its size traps. A FENCE does nothing.
+/// that isn't taken goes on, whatever its target. A load, a store or an atomic whose address isn't a
+/// multiple of its size traps. A FENCE does nothing.
 pub fn effect(instr: &Instr, regs: &Regs, pc: u64) -> Meaning
     requires { IsValid instr.now }
     ensures meaning { result ≡ effect_of instr.now regs.now pc }
@@ -57,6 +58,14 @@ pub fn effect(instr: &Instr, regs: &Regs, pc: u64) -> Meaning
         Instr::Reg { op, rd, rs1, rs2 } => {
             go_on(rd, value_of_registers(op, regs.get(rs1), regs.get(rs2)), pc)
         }
+        Instr::Atomic {
+            op,
+            wide,
+            rd,
+            rs1,
+            rs2,
+            ..
+        } => { atomic_at(op, wide, rd, regs.get(rs1), regs.get(rs2)) }
         Instr::Fence { .. } => go_on(0, 0, pc),
         Instr::Ecall => Meaning::Call,
         Instr::Ebreak => Meaning::Trap {
@@ -145,6 +154,44 @@ fn store_to(op: Op, addr: u64, value: u64) -> Meaning
         Meaning::Trap {
             cause: Cause::StoreMisaligned,
         }
+    }
+}
+
+/// An atomic on the bytes at `addr`, with `value` as its own number, to `rd`, below 32; a trap where `addr`
+/// isn't a multiple of its size.
+fn atomic_at(op: Op, wide: bool, rd: u8, addr: u64, value: u64) -> Meaning
+    requires atomic { IsTrue (is_atomic op) }
+    requires register { rd < 32 }
+    ensures meaning { result ≡ access_or_trap (atomic_of op wide rd addr value) (misaligned_atomic op) }
+    ensures register { HasRegister result }
+    ensures access { HasAccess result }
+{
+    let size = if wide { 8 } else { 4 };
+    if is_multiple(addr, size) {
+        Meaning::Access {
+            access: Access {
+                op: kind_of_atomic(op),
+                rd,
+                addr,
+                size,
+                signed: true,
+                value,
+            },
+        }
+    } else {
+        Meaning::Trap {
+            cause: cause_of_misaligned_atomic(op),
+        }
+    }
+}
+
+/// Why an atomic traps whose address isn't a multiple of its size.
+fn cause_of_misaligned_atomic(op: Op) -> Cause
+    ensures { result ≡ misaligned_atomic op }
+{
+    match op {
+        Op::Lr => Cause::LoadMisaligned,
+        _ => Cause::StoreMisaligned,
     }
 }
 

@@ -1,8 +1,11 @@
 //! Worked examples. The words are what an assembler makes of the text beside them, and the values
 //! follow from the RISC-V ISA manual.
+mod extension_a;
+mod extension_m;
+
 use super::*;
 use rv_decode::decode;
-use sim_base::Cause;
+use sim_base::{Cause, CostClass};
 
 const MISALIGNED: Meaning = Meaning::Trap {
     cause: Cause::InstrMisaligned,
@@ -395,6 +398,31 @@ fn stores_write_their_low_bytes(rt: HostRuntime) {
             Some(done),
             "at {text}"
         );
+    }
+}
+
+#[test]
+fn classes_by_cost(rt: HostRuntime) {
+    for (text, word, cost_class) in [
+        ("addi x3, x1, -1", 0xfff0_8193, CostClass::Alu),
+        ("add x3, x1, x2", 0x0020_81b3, CostClass::Alu),
+        ("beq x1, x2, 8", 0x0020_8463, CostClass::Alu),
+        ("ebreak", 0x0010_0073, CostClass::Alu),
+        ("mulhsu x3, x1, x2", 0x0220_a1b3, CostClass::Mul),
+        ("mulw x3, x1, x2", 0x0220_81bb, CostClass::Mul),
+        ("div x3, x1, x2", 0x0220_c1b3, CostClass::Div),
+        ("remuw x3, x1, x2", 0x0220_f1bb, CostClass::Div),
+        ("ld x3, 8(x1)", 0x0080_b183, CostClass::Mem),
+        ("sb x2, 1(x1)", 0x0020_80a3, CostClass::Mem),
+        ("lr.w x3, (x1)", 0x1000_a1af, CostClass::Amo),
+        ("amoadd.w x3, x2, (x1)", 0x0020_a1af, CostClass::Amo),
+        ("ecall", 0x0000_0073, CostClass::Call),
+    ] {
+        let Some(instr) = decode(word) else {
+            assert!(rt; false, "at {text}");
+            return;
+        };
+        assert_eq!(rt; class(&instr), cost_class, "at {text}");
     }
 }
 

@@ -6,6 +6,8 @@ ghost use Rattle.rv_exec.specs.Arithmetic.{signed_lt, low_word, arithmetic_shift
 ghost use Rattle.rv_exec.specs.Access.{size_of, is_size, is_signed};
 ghost use Rattle.rv_exec.specs.Effect.{upper_value, is_taken, immediate_value, shift_value, register_value};
 
+use crate::division::value_of_division;
+use crate::products::value_of_product;
 use rv_decode::Op;
 
 /// What LUI and AUIPC write.
@@ -93,6 +95,9 @@ pub(crate) fn value_of_registers(op: Op, a: u64, b: u64) -> u64
         Op::Sllw => sign_extended(word(a) << word_amount),
         Op::Srlw => sign_extended(word(a) >> word_amount),
         Op::Sraw => signed_word_shift(a, word_amount),
+        Op::Mul | Op::Mulh | Op::Mulhsu | Op::Mulhu | Op::Mulw => value_of_product(op, a, b),
+        Op::Div | Op::Divu | Op::Rem | Op::Remu => value_of_division(op, a, b),
+        Op::Divw | Op::Divuw | Op::Remw | Op::Remuw => value_of_division(op, a, b),
         _ => unreachable!(),
     }
 }
@@ -163,7 +168,7 @@ fn signed_word_shift(a: u64, amount: u8) -> u64
 }
 
 /// The low word of a register's number.
-fn word(n: u64) -> u32
+pub(crate) fn word(n: u64) -> u32
     ensures { result ≡ low_word n }
 {
     (n & 0xffff_ffff) as u32

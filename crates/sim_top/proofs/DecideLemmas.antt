@@ -13,23 +13,26 @@ use Rattle.sim_top.specs.declared.outcomes.Decision.{Decision}
 use Rattle.sim_base.specs.declared.memory.NoMemory.{NoMemory}
 use Rattle.sim_top.specs.declared.outcomes.Outcome.TheVariants.{BadImage}
 use Rattle.sim_top.specs.Words.{image_name}
-use Rattle.sim_top.specs.Answer.{Input, IsImageFile, Decides, decided_by_file, decided_by_image, decided_by_end, most_actions, refused}
+use Rattle.sim_top.specs.Answer.{Input, IsImageFile, Decides, decided_by_file, decided_by_image, decided_by_end, machine, most_actions, refused}
+use Rattle.flat_machine.proofs.TrapLemmas.{trap_has_cause}
 
 module _ (i : Input) (name file : List ℕ) (is : IsImageFile i name file) where
-  by_end : (output : List ℕ) (ended : Option End) → decided_by_file file ≡ decided_by_end output ended
-      → Decides i (decided_by_end output ended).outcome (decided_by_end output ended).text
-  by_end output None e = (name, file, is, e)
-  by_end output (Some (Exit code)) e = (name, file, is, e)
-  by_end output (Some (Trap thread cause pc)) e = (name, file, is, e)
-  by_end output (Some Deadlock) e = (name, file, is, e)
-  by_end output (Some Budget) e = (name, file, is, e)
+  by_end : (program : Program) (output : List ℕ) (ended : Option End) → image_of file ≡ Ok program → (after (machine program) most_actions).ended ≡ ended
+      → decided_by_file file ≡ decided_by_end output ended → Decides i (decided_by_end output ended).outcome (decided_by_end output ended).text
+  by_end program output None taken end e = (name, file, is, e)
+  by_end program output (Some (Exit code)) taken end e = (name, file, is, e)
+  by_end program output (Some (Trap thread cause pc)) taken end e =
+      let cause_is = trap_has_cause (machine program) most_actions thread cause pc end in
+      (name, file, is, record { program = program; is_program = taken; step = cause_is.0; early = cause_is.1; traps = cause_is.2 }, e)
+  by_end program output (Some Deadlock) taken end e = (name, file, is, e)
+  by_end program output (Some Budget) taken end e = (name, file, is, e)
 
-  by_image : (r : Result Program ImageFault) → decided_by_file file ≡ decided_by_image r → Decides i (decided_by_image r).outcome (decided_by_image r).text
-  by_image (Ok program) e = by_end (after (record { image = program }) most_actions).output (after (record { image = program }) most_actions).ended e
-  by_image (Err fault) e = (name, file, is, e)
+  by_image : (r : Result Program ImageFault) → image_of file ≡ r → decided_by_file file ≡ decided_by_image r → Decides i (decided_by_image r).outcome (decided_by_image r).text
+  by_image (Ok program) taken e = by_end program (after (machine program) most_actions).output (after (machine program) most_actions).ended taken refl e
+  by_image (Err fault) taken e = (name, file, is, e)
 
   pub decides_file : (d : Decision) → d ≡ decided_by_file file → Decides i d.outcome d.text
-  decides_file d e = rw e (by_image (image_of file) refl)
+  decides_file d e = rw e (by_image (image_of file) refl refl)
 
 -- a file over the limit is refused
 pub too_long : (file : List ℕ) → 16777216 < length file → image_of file ≡ Err TooLong

@@ -1,16 +1,21 @@
 -- What a call of the simulator answers, by what it is given: the words, the file that they name, and a
 -- stream to print on.
-use Rattle.std.specs.Prelude.{◌≡◌, ℕ, List, [], take, Option, Some, None, Result, Ok, Err}
+use Rattle.std.specs.Prelude.{◌≡◌, ◌<◌, ℕ, List, [], take, Option, Some, None, Result, Ok, Err}
 use Rattle.sim_base.specs.declared.ends.End.{End}
-use Rattle.sim_base.specs.declared.ends.End.TheVariants.{Exit}
+use Rattle.sim_base.specs.declared.ends.End.TheVariants.{Exit, Trap}
+use Rattle.sim_base.specs.declared.ends.Cause.{Cause}
+use Rattle.sim_base.specs.declared.settings.Config.{Config}
+use Rattle.sim_base.specs.Settings.{default_settings}
 use Rattle.sim_outside.specs.Fault.{Rose}
 use Rattle.sim_outside.specs.Told.{Tells, Took}
 use Rattle.elf_image.specs.Image.{Program, image_of}
 use Rattle.elf_image.specs.declared.refusal.ImageFault.{ImageFault}
+use Rattle.elf_image.specs.Layout.{Setup}
 use Rattle.flat_machine.specs.State.{State}
+use Rattle.flat_machine.specs.Action.{IsTrapping}
 use Rattle.flat_machine.specs.Run.{after}
 use Rattle.sim_top.specs.declared.outcomes.Outcome.{Outcome}
-use Rattle.sim_top.specs.declared.outcomes.Outcome.TheVariants.{Done, Usage, BadImage, NotBuilt, ReadFault, WriteFault, NoMemory}
+use Rattle.sim_top.specs.declared.outcomes.Outcome.TheVariants.{Done, Trap as TrapOutcome, Usage, BadImage, NotBuilt, ReadFault, WriteFault, NoMemory}
 use Rattle.sim_top.specs.declared.outcomes.Decision.{Decision}
 use Rattle.sim_top.specs.Words.{image_name}
 use Rattle.sim_top.specs.Text.{run_text, fault_text}
@@ -23,17 +28,26 @@ most_actions = 1000000
 abbrev pub refused : Outcome → Decision
 refused outcome = record { outcome = outcome; text = fault_text outcome }
 
--- what the end of a run decides: an exit is reported with the output, and nothing else is built yet
+-- what the end of a run decides: an exit and a trap are reported with the output. Where there is no end yet, or
+-- the program has come to a store-conditional, nothing is built yet
 abbrev pub decided_by_end : List ℕ → Option End → Decision
-decided_by_end output (Some (Exit code)) = record { outcome = Done code; text = run_text output code }
+decided_by_end output (Some (Exit code)) = record { outcome = Done code; text = run_text output (Exit code) }
+decided_by_end output (Some (Trap thread cause pc)) = record { outcome = TrapOutcome thread cause pc; text = run_text output (Trap thread cause pc) }
 decided_by_end output _ = refused NotBuilt
 
 abbrev pub decided_by_state : State → Decision
 decided_by_state s = decided_by_end s.output s.ended
 
+-- the machine that a program runs on: it has the default settings, but for its one tile
+abbrev pub one_tile : Config
+one_tile = record default_settings { tiles = 1 }
+
+abbrev pub machine : Program → Setup
+machine program = record { image = program; config = one_tile }
+
 -- what an image decides: the flat machine's one legal action is made again and again
 abbrev pub decided_by_image : Result Program ImageFault → Decision
-decided_by_image (Ok program) = decided_by_state (after (record { image = program }) most_actions)
+decided_by_image (Ok program) = decided_by_state (after (machine program) most_actions)
 decided_by_image (Err fault) = refused (BadImage fault)
 
 -- what the bytes of a file decide
@@ -65,12 +79,23 @@ pub record HadReadFault (i : Input) (name : List ℕ) : Type 0 where
   pub named : image_name i.words ≡ Some name
   pub rose : Rose (i.faults_before name) (i.faults_now name)
 
+-- the file's program has come to a state in which this thread's instruction at this pc traps so
+pub record IsTrapped (file : List ℕ) (number : ℕ) (cause : Cause) (pc : ℕ) : Type 0 where
+  pub program : Program
+  pub is_program : image_of file ≡ Ok program
+  pub step : ℕ
+  pub early : step < most_actions
+  pub traps : IsTrapping (machine program) (after (machine program) step) number cause pc
+
 -- the outcome and the text that the input decides, in order: the words, the file's reading, the image, the run
 abbrev pub Decides : Input → Outcome → List ℕ → Type 0
 Decides i Usage text = (image_name i.words ≡ None) × (text ≡ fault_text Usage)
 Decides i ReadFault text = (name : List ℕ) × HadReadFault i name × (text ≡ fault_text ReadFault)
 Decides i WriteFault text = ⊥
 Decides i NoMemory text = ⊥
+Decides i (TrapOutcome number cause pc) text =
+    (name : List ℕ) × (file : List ℕ) × IsImageFile i name file × IsTrapped file number cause pc
+    × (decided_by_file file ≡ record { outcome = TrapOutcome number cause pc; text = text })
 Decides i outcome text =
     (name : List ℕ) × (file : List ℕ) × IsImageFile i name file × (decided_by_file file ≡ record { outcome = outcome; text = text })
 

@@ -1,12 +1,13 @@
 ghost use Rattle.std.specs.Prelude.{◌≡◌, IfOk, ℕ, List};
-ghost use Rattle.sim_top.specs.Answer.{Decides, decided_by_file, decided_by_image, refused};
+ghost use Rattle.sim_top.specs.Answer.{Decides, decided_by_file, decided_by_image, decided_by_end, one_tile, refused};
+ghost use Rattle.sim_base.specs.Settings.{IsChecked};
 
 use crate::outcomes::{Decision, Outcome};
 use crate::report::{fault_line, run_text};
 use crate::words::image_name;
 use elf_image::{FILE_LIMIT, Image, ImageFault, ImageRefusal, World, read_image};
 use flat_machine::run;
-use sim_base::{Bytes, End, NoMemory, Text};
+use sim_base::{Bytes, Config, End, NoMemory, Text};
 use sim_outside::{FileAnswer, Files};
 use std::alloc::Global;
 
@@ -60,17 +61,38 @@ fn decide_file(alloc: Global, bytes: &[u8]) -> Result<Decision, NoMemory>
 fn decide_image(alloc: Global, image: Image) -> Result<Decision, NoMemory>
     ensures { IfOk result (λ d. d ≡ decided_by_image (Ok image)) }
 {
-    let world = World::new(image);
+    let world = World::new(image, one_tile());
     let flat = run(alloc, &world, MOST_ACTIONS)?;
-    match flat.ended() {
+    decide_end(alloc, flat.output(), flat.ended())
+}
+
+/// What the end of a run decides, if it has one, with the program's output.
+fn decide_end(alloc: Global, output: &[u8], ended: Option<End>) -> Result<Decision, NoMemory>
+    ensures { IfOk result (λ d. d ≡ decided_by_end output.now ended) }
+{
+    match ended {
         Some(End::Exit { code }) => {
-            let text = Bytes::from_vec(run_text(alloc, flat.output(), code)?);
-            Ok(Decision {
-                outcome: Outcome::Done { code },
-                text,
-            })
+            let text = Bytes::from_vec(run_text(alloc, output, &End::Exit { code })?);
+            let outcome = Outcome::Done { code };
+            Ok(Decision { outcome, text })
         }
-        _ => refuse(alloc, Outcome::NotBuilt),
+        Some(End::Trap { thread, cause, pc }) => {
+            let text = Bytes::from_vec(run_text(alloc, output, &End::Trap { thread, cause, pc })?);
+            let outcome = Outcome::Trap { thread, cause, pc };
+            Ok(Decision { outcome, text })
+        }
+        Some(End::Deadlock | End::Budget) | None => refuse(alloc, Outcome::NotBuilt),
+    }
+}
+
+/// The settings that programs run under: the default ones, but for one tile.
+fn one_tile() -> Config
+    ensures value { result ≡ one_tile }
+    ensures checked { IsChecked result }
+{
+    Config {
+        tiles: 1,
+        ..Config::defaults()
     }
 }
 

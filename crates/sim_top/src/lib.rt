@@ -2,14 +2,10 @@
 //! the process.
 #![tactic(auto)]
 
-#[cfg(test)]
-mod data_image;
 mod decision;
 mod outcomes;
 mod putting;
 mod report;
-#[cfg(test)]
-mod sort_image;
 #[cfg(test)]
 mod tests;
 mod top;

@@ -1,16 +1,18 @@
 use elf_image::ImageFault;
-use sim_base::Bytes;
+use sim_base::{Bytes, Cause};
 
 /// How a call of the simulator ended.
 #[derive(Clone, Copy, Debug, PartialEq, Eq)]
 pub enum Outcome {
     /// The program exited with this code.
     Done { code: u8 },
+    /// A thread's instruction at `pc` trapped.
+    Trap { thread: u32, cause: Cause, pc: u64 },
     /// The words have no meaning.
     Usage,
     /// The image is refused.
     BadImage { fault: ImageFault },
-    /// The program trapped or took too many actions, which isn't reported yet.
+    /// The program made 1,000,000 actions without an end, or came to a store-conditional, which isn't reported yet.
     NotBuilt,
     /// The image couldn't be read.
     ReadFault,

@@ -1,14 +1,13 @@
 //! Whole runs, from the words and the file to the text and the status. Expected values are worked out by
 //! hand from the RISC-V ISA manual and the rules of the calls.
 
-use crate::data_image::DATA;
-use crate::sort_image::SORT;
 use crate::{Finish, Outcome, execute_alone};
 use elf_image::{ImageFault, World, read_image};
 use flat_machine::{ActFault, Flat, run};
-use sim_base::{Action, Cause, End, Text};
+use sim_base::{Action, Cause, Config, End, Text};
 use sim_outside::{MemFiles, MemSink};
 use std::alloc::{AllocError, Global};
+use std::process::Abort;
 use std::test::Fail;
 
 /// The file header of an ELF64 executable for RISC-V with entry 0x10120 and one program header after it, and
@@ -115,6 +114,15 @@ fn answer(
     Ok((finish, taken))
 }
 
+/// That thread 0 trapped.
+fn trap(cause: Cause, pc: u64) -> Outcome {
+    Outcome::Trap {
+        thread: 0,
+        cause,
+        pc,
+    }
+}
+
 /// The same for `run program` over a stream that takes all.
 fn run_alone(alloc: Global, file: Vec<u8>) -> Result<(Finish, Vec<u8>), Fail> {
     answer(
@@ -160,9 +168,9 @@ fn runs_and_refuses(rt: HostRuntime) -> Result<(), Fail> {
         ),
         (
             image(alloc, &[0x00000000], b"")?,
-            12,
-            Outcome::NotBuilt,
-            b"tilesim: not built\n",
+            1,
+            trap(Cause::Illegal, 0x10120),
+            b"== tilesim ==\nend: trap thread 0 Illegal at 0x0000000000010120\n",
         ),
         (short, 6, headers, b"tilesim: bad image Headers\n"),
     ];
@@ -215,11 +223,30 @@ fn runs_what_the_usual_linker_writes(rt: HostRuntime) -> Result<(), Fail> {
     Ok(())
 }
 
-#[test]
-fn calls_answer_by_their_table(rt: HostRuntime) -> Result<(), Fail> {
+/// A program ends by exit_group with this status after it put so many bytes.
+fn ends_after<R: Abort + AllocGlobal>(
+    rt: &R,
+    name: &str,
+    code: &[u32],
+    status: u8,
+    put: usize,
+) -> Result<(), Fail> {
     let alloc = rt.alloc();
+    let (finish, taken) = run_alone(alloc, image(alloc, code, b"")?)?;
+    assert_eq!(rt; finish.outcome, Outcome::Done { code: status }, "{name}");
+    let report = format!(in alloc; "== tilesim ==\nend: exit {status}\n")?;
+    assert!(rt;
+        taken.len() >= put && taken.len() - put == report.len(),
+        "{name}"
+    );
+    assert!(rt; taken.as_slice().ends_with(report.as_bytes()), "{name}");
+    Ok(())
+}
+
+#[test]
+fn writes_answer_by_their_table(rt: HostRuntime) -> Result<(), Fail> {
     // Each program ends by exit_group with the low byte of the call's answer.
-    let rows: [(&str, &[u32], u8, usize); 9] = [
+    let rows: [(&str, &[u32], u8, usize); 5] = [
         (
             "descriptor 3: -9",
             &[0x04000893, 0x00300513, 0x00000073, 0x05E00893, 0x00000073],
@@ -260,6 +287,17 @@ fn calls_answer_by_their_table(rt: HostRuntime) -> Result<(), Fail> {
             16,
             4097,
         ),
+    ];
+    for (name, code, status, put) in rows {
+        ends_after(&rt, name, code, status, put)?;
+    }
+    Ok(())
+}
+
+#[test]
+fn other_calls_answer_by_their_table(rt: HostRuntime) -> Result<(), Fail> {
+    // Each program ends by exit_group with the low byte of the call's answer.
+    let rows: [(&str, &[u32], u8, usize); 4] = [
         (
             "sched_yield: 0",
             &[0x07C00893, 0x00700513, 0x00000073, 0x05E00893, 0x00000073],
@@ -286,11 +324,7 @@ fn calls_answer_by_their_table(rt: HostRuntime) -> Result<(), Fail> {
         ),
     ];
     for (name, code, status, put) in rows {
-        let (finish, taken) = run_alone(alloc, image(alloc, code, b"")?)?;
-        assert_eq!(rt; finish.outcome, Outcome::Done { code: status }, "{name}");
-        let report = format!(in alloc; "== tilesim ==\nend: exit {status}\n")?;
-        assert_eq!(rt; taken.len(), put + report.len(), "{name}");
-        assert!(rt; taken.as_slice().ends_with(report.as_bytes()), "{name}");
+        ends_after(&rt, name, code, status, put)?;
     }
     Ok(())
 }
@@ -341,7 +375,7 @@ fn a_failing_stream_takes_a_front_of_the_text(rt: HostRuntime) -> Result<(), Fai
 fn the_flat_machine_acts_and_refuses(rt: HostRuntime) -> Result<(), Fail> {
     let alloc = rt.alloc();
     let file = image(alloc, &EXIT, b"")?;
-    let world = World::new(read_image(alloc, file.as_slice())?);
+    let world = World::new(read_image(alloc, file.as_slice())?, Config::defaults());
     let mut flat = Flat::start(alloc, &world)?;
     let exec = Action::Exec { thread: 0 };
     let serve = Action::Serve { thread: 0 };
@@ -361,7 +395,7 @@ fn the_flat_machine_acts_and_refuses(rt: HostRuntime) -> Result<(), Fail> {
         assert_eq!(rt; flat.act(alloc, &world, &action), wanted, "{action:?}");
     }
     assert_eq!(rt; flat.ended(), Some(End::Exit { code: 0 }));
-    assert_eq!(rt; flat.legal_action(), None);
+    assert_eq!(rt; flat.legal_action(&world), None);
     assert_eq!(rt; flat.output(), b"".as_slice());
     assert_eq!(rt; flat.byte(0x10120), 0x93);
     assert_eq!(rt; flat.byte(0x20), 0);
@@ -377,198 +411,280 @@ fn a_full_output_takes_no_more(rt: HostRuntime) -> Result<(), Fail> {
     ];
     let alloc = rt.alloc();
     let file = image(alloc, &code, b"")?;
-    let world = World::new(read_image(alloc, file.as_slice())?);
+    let world = World::new(read_image(alloc, file.as_slice())?, Config::defaults());
     let flat = run(alloc, &world, 1_100_000)?;
     assert_eq!(rt; flat.ended(), Some(End::Exit { code: 228 }));
     assert_eq!(rt; flat.output().len(), 1_048_576);
     Ok(())
 }
 
+/// An exit with this code.
+fn exit(code: u8) -> End {
+    End::Exit { code }
+}
+
+/// A trap of the second instruction.
+fn trap_at_10124(cause: Cause) -> End {
+    End::Trap {
+        thread: 0,
+        cause,
+        pc: 0x10124,
+    }
+}
+
+/// How a program with these words at its entry ends on the flat machine.
+fn end_of(alloc: Global, code: &[u32]) -> Result<Option<End>, Fail> {
+    let file = image(alloc, code, b"")?;
+    let world = World::new(read_image(alloc, file.as_slice())?, Config::defaults());
+    let flat = run(alloc, &world, 1_000)?;
+    Ok(flat.ended())
+}
+
 #[test]
-fn loads_and_stores_meet_the_flat_memory(rt: HostRuntime) -> Result<(), Fail> {
-    // The heap is [0x11000, 0x111000) and the stack [0x112000, 0x122000).
-    let alloc = rt.alloc();
-    let rows: [(&str, &[u32], End); 20] = [
+fn the_heap_is_read_and_written(rt: HostRuntime) -> Result<(), Fail> {
+    // The heap is [0x11000, 0x111000).
+    let rows: [(&str, &[u32], End); 4] = [
         (
             "eight bytes into the heap, the last one out",
             &[
                 0x00011437, 0xFFF00293, 0x00543023, 0x00744503, 0x05E00893, 0x00000073,
             ],
-            End::Exit { code: 255 },
+            exit(255),
         ),
         (
             "the heap's last byte",
             &[
                 0x00111437, 0xFFF00293, 0xFE540FA3, 0xFFF44503, 0x05E00893, 0x00000073,
             ],
-            End::Exit { code: 255 },
+            exit(255),
         ),
         (
             "past the heap",
             &[0x00111437, 0x00540023, 0x05E00893, 0x00000073],
-            End::Trap {
-                thread: 0,
-                cause: Cause::StoreAccess,
-                pc: 0x10124,
-            },
+            trap_at_10124(Cause::StoreAccess),
         ),
         (
             "before the heap",
             &[0x00011437, 0xFE540FA3, 0x05E00893, 0x00000073],
-            End::Trap {
-                thread: 0,
-                cause: Cause::StoreAccess,
-                pc: 0x10124,
-            },
+            trap_at_10124(Cause::StoreAccess),
         ),
+    ];
+    for (name, code, end) in rows {
+        assert_eq!(rt; end_of(rt.alloc(), code)?, Some(end), "{name}");
+    }
+    Ok(())
+}
+
+#[test]
+fn the_stack_is_read_and_written(rt: HostRuntime) -> Result<(), Fail> {
+    // The stack is [0x112000, 0x122000).
+    let rows: [(&str, &[u32], End); 4] = [
         (
             "the stack's first byte",
             &[
                 0x00112437, 0x05A00293, 0x00540023, 0x00040503, 0x05E00893, 0x00000073,
             ],
-            End::Exit { code: 90 },
+            exit(90),
         ),
         (
             "before the stack",
             &[0x00112437, 0xFFF40503, 0x05E00893, 0x00000073],
-            End::Trap {
-                thread: 0,
-                cause: Cause::LoadAccess,
-                pc: 0x10124,
-            },
+            trap_at_10124(Cause::LoadAccess),
         ),
         (
             "the stack's last byte",
             &[
                 0x00122437, 0x05B00293, 0xFE540FA3, 0xFFF40503, 0x05E00893, 0x00000073,
             ],
-            End::Exit { code: 91 },
+            exit(91),
         ),
         (
             "past the stack",
             &[0x00122437, 0x00540023, 0x05E00893, 0x00000073],
-            End::Trap {
-                thread: 0,
-                cause: Cause::StoreAccess,
-                pc: 0x10124,
-            },
+            trap_at_10124(Cause::StoreAccess),
         ),
+    ];
+    for (name, code, end) in rows {
+        assert_eq!(rt; end_of(rt.alloc(), code)?, Some(end), "{name}");
+    }
+    Ok(())
+}
+
+#[test]
+fn other_addresses_trap(rt: HostRuntime) -> Result<(), Fail> {
+    let rows: [(&str, &[u32], End); 6] = [
         (
             "the segment isn't written",
             &[0x00010437, 0x00540023, 0x05E00893, 0x00000073],
-            End::Trap {
-                thread: 0,
-                cause: Cause::StoreAccess,
-                pc: 0x10124,
-            },
+            trap_at_10124(Cause::StoreAccess),
         ),
         (
             "the segment is read",
             &[0x00010437, 0x00144503, 0x05E00893, 0x00000073],
-            End::Exit { code: 69 },
+            exit(69),
         ),
         (
             "alignment before rights",
             &[0x00000413, 0x00543223, 0x05E00893, 0x00000073],
-            End::Trap {
-                thread: 0,
-                cause: Cause::StoreMisaligned,
-                pc: 0x10124,
-            },
+            trap_at_10124(Cause::StoreMisaligned),
         ),
         (
             "the last eight bytes of the address space",
             &[0xFF800413, 0x00043503, 0x05E00893, 0x00000073],
-            End::Trap {
-                thread: 0,
-                cause: Cause::LoadAccess,
-                pc: 0x10124,
-            },
+            trap_at_10124(Cause::LoadAccess),
         ),
         (
             "an address that wraps to 0",
             &[0xFF800413, 0x00843503, 0x05E00893, 0x00000073],
-            End::Trap {
-                thread: 0,
-                cause: Cause::LoadAccess,
-                pc: 0x10124,
-            },
+            trap_at_10124(Cause::LoadAccess),
         ),
         (
             "a word at 2",
             &[0x00011437, 0x00242503, 0x05E00893, 0x00000073],
-            End::Trap {
-                thread: 0,
-                cause: Cause::LoadMisaligned,
-                pc: 0x10124,
-            },
+            trap_at_10124(Cause::LoadMisaligned),
         ),
+    ];
+    for (name, code, end) in rows {
+        assert_eq!(rt; end_of(rt.alloc(), code)?, Some(end), "{name}");
+    }
+    Ok(())
+}
+
+#[test]
+fn loads_and_stores_have_their_widths(rt: HostRuntime) -> Result<(), Fail> {
+    let rows: [(&str, &[u32], End); 6] = [
         (
             "the high byte of a half word has its sign",
             &[
                 0x00011437, 0xF8100293, 0x00541323, 0x00740503, 0x05E00893, 0x00000073,
             ],
-            End::Exit { code: 255 },
+            exit(255),
         ),
         (
             "a half word of a small word is positive",
             &[
                 0x00011437, 0x08100293, 0x00542023, 0x00041503, 0x00052533, 0x05E00893, 0x00000073,
             ],
-            End::Exit { code: 0 },
+            exit(0),
         ),
         (
             "an unsigned word is positive",
             &[
                 0x00011437, 0xFFF00293, 0x00542223, 0x00446503, 0x00052533, 0x05E00893, 0x00000073,
             ],
-            End::Exit { code: 0 },
+            exit(0),
         ),
         (
             "a word is negative",
             &[
                 0x00011437, 0xFFF00293, 0x00542223, 0x00442503, 0x00052533, 0x05E00893, 0x00000073,
             ],
-            End::Exit { code: 1 },
+            exit(1),
         ),
         (
             "a word leaves the one before it",
             &[
                 0x00011437, 0xFFF00293, 0x00542223, 0x00043503, 0x01F55513, 0x05E00893, 0x00000073,
             ],
-            End::Exit { code: 254 },
+            exit(254),
         ),
         (
             "a byte amid a word",
             &[
                 0x00011437, 0xFFF00293, 0x005401A3, 0x00046503, 0x01455513, 0x05E00893, 0x00000073,
             ],
-            End::Exit { code: 240 },
+            exit(240),
         ),
     ];
     for (name, code, end) in rows {
-        let file = image(alloc, code, b"")?;
-        let world = World::new(read_image(alloc, file.as_slice())?);
-        let flat = run(alloc, &world, 1_000)?;
-        assert_eq!(rt; flat.ended(), Some(end), "{name}");
+        assert_eq!(rt; end_of(rt.alloc(), code)?, Some(end), "{name}");
     }
     Ok(())
 }
 
 #[test]
-fn compiled_programs_run(rt: HostRuntime) -> Result<(), Fail> {
-    // Their sources and how they were compiled are in examples/sort, which qemu-riscv64 runs to the same text, and
-    // examples/data, whose counts are those of the letters of its sentence.
+fn traps_are_reported(rt: HostRuntime) -> Result<(), Fail> {
     let alloc = rt.alloc();
-    let sorted =
-        b"206 286 716 940 991 1371 1438 2460 2471 3151 3237 3563 3729 4173 4500 5334 5372 5477 6183 6263 6364 6561 7020 8174\n1 0 0 2 10 4\n== tilesim ==\nend: exit 7\n";
-    let counted =
-        b"The quick brown fox jumps over the lazy dog\no4 e3 r2 u2 z1\n== tilesim ==\nend: exit 12\n";
-    let rows: [(&[u8], u8, &[u8]); 2] = [(&SORT, 7, sorted), (&DATA, 12, counted)];
-    for (file, code, text) in rows {
-        let (finish, taken) = run_alone(alloc, file.to_vec(alloc)?)?;
-        assert_eq!(rt; taken.as_slice(), text);
-        assert_eq!(rt; finish.outcome, Outcome::Done { code });
+    let rows: [(&[u32], Outcome, &[u8]); 4] = [
+        // lui s0,0x11; lw a0,2(s0)
+        (
+            &[0x00011437, 0x00242503],
+            trap(Cause::LoadMisaligned, 0x10124),
+            b"== tilesim ==\nend: trap thread 0 LoadMisaligned at 0x0000000000010124\n",
+        ),
+        // beq x0,x0 to 6 bytes on; bne x0,x0 to there goes on to an EBREAK.
+        (
+            &[0x00000363],
+            trap(Cause::InstrMisaligned, 0x10120),
+            b"== tilesim ==\nend: trap thread 0 InstrMisaligned at 0x0000000000010120\n",
+        ),
+        (
+            &[0x00001363, 0x00100073],
+            trap(Cause::Breakpoint, 0x10124),
+            b"== tilesim ==\nend: trap thread 0 Breakpoint at 0x0000000000010124\n",
+        ),
+        // addi t0,x0,-4; jalr x0,0(t0)
+        (
+            &[0xFFC00293, 0x00028067],
+            trap(Cause::InstrAccess, 0xFFFF_FFFF_FFFF_FFFC),
+            b"== tilesim ==\nend: trap thread 0 InstrAccess at 0xfffffffffffffffc\n",
+        ),
+    ];
+    for (code, outcome, text) in rows {
+        let (finish, taken) = run_alone(alloc, image(alloc, code, b"")?)?;
+        assert_eq!(rt; finish.status, 1, "{outcome:?}");
+        assert_eq!(rt; finish.outcome, outcome);
+        assert_eq!(rt; taken.as_slice(), text, "{outcome:?}");
+    }
+    Ok(())
+}
+
+#[test]
+fn a_store_conditional_succeeds_or_fails(rt: HostRuntime) -> Result<(), Fail> {
+    // lui s0,0x11; lr.d t0,(s0); sd s0,0(s0); sc.d a0,t0,(s0); addi a7,x0,94; ecall
+    let reserved: [u32; 6] = [
+        0x00011437, 0x100432AF, 0x00843023, 0x1854352F, 0x05E00893, 0x00000073,
+    ];
+    // The same with sc.w for sc.d, and with no reservation at all.
+    let of_a_word: [u32; 6] = [
+        0x00011437, 0x100432AF, 0x00843023, 0x1854252F, 0x05E00893, 0x00000073,
+    ];
+    let without: [u32; 6] = [
+        0x00011437, 0x00043283, 0x00843023, 0x1854352F, 0x05E00893, 0x00000073,
+    ];
+    let exec = Action::Exec { thread: 0 };
+    let fail = Action::FailSc { thread: 0 };
+    let refused = Err(ActFault::NotLegal);
+    let rows: [(&[u32], Action, Result<(), ActFault>, u8, u8); 6] = [
+        (&reserved, exec, Ok(()), 0, 0),
+        (&reserved, fail, Ok(()), 1, 0x10),
+        (&of_a_word, exec, refused, 1, 0x10),
+        (&of_a_word, fail, Ok(()), 1, 0x10),
+        (&without, exec, refused, 1, 0x10),
+        (&without, fail, Ok(()), 1, 0x10),
+    ];
+    let alloc = rt.alloc();
+    for (code, action, wanted, value, byte) in rows {
+        let file = image(alloc, code, b"")?;
+        let world = World::new(read_image(alloc, file.as_slice())?, Config::defaults());
+        let mut flat = Flat::start(alloc, &world)?;
+        assert_eq!(rt; flat.act(alloc, &world, &fail), refused);
+        for _ in 0..3 {
+            flat.act(alloc, &world, &exec)?;
+        }
+        assert_eq!(rt; flat.legal_action(&world), None);
+        let done = flat.act(alloc, &world, &action);
+        assert_eq!(rt; done, wanted);
+        if done.is_err() {
+            flat.act(alloc, &world, &fail)?;
+        }
+        for action in [exec, exec, Action::Serve { thread: 0 }] {
+            flat.act(alloc, &world, &action)?;
+        }
+        assert_eq!(rt; flat.ended(), Some(End::Exit { code: value }));
+        assert_eq!(rt; flat.byte(0x11001), byte);
+        let (finish, _) = run_alone(alloc, file)?;
+        assert_eq!(rt; finish.outcome, Outcome::NotBuilt);
     }
     Ok(())
 }

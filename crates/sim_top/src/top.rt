@@ -50,6 +50,7 @@ fn finish(outcome: Outcome) -> Finish
 {
     let status = match outcome {
         Outcome::Done { .. } => 0,
+        Outcome::Trap { .. } => 1,
         Outcome::Usage => 4,
         Outcome::BadImage { .. } => 6,
         Outcome::ReadFault => 8,

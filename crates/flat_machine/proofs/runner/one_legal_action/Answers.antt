@@ -1,8 +1,8 @@
-use Rattle.flat_machine.proofs.LegalLemmas.{legal_action_legal, only_legal_action}
+use Rattle.flat_machine.proofs.LegalLemmas.{made_is_legal, legal_is_made}
 use Rattle.flat_machine.proofs.runner.one_legal_action.Goals as goal
 
 pub returns-clause-legal : goal.returns-clause-legal
-returns-clause-legal c = legal_action_legal
+returns-clause-legal c = made_is_legal
 
 pub returns-clause-only : goal.returns-clause-only
-returns-clause-only c = only_legal_action
+returns-clause-only c = legal_is_made

@@ -1,5 +1,6 @@
 use Rattle.std.proofs.Common.{◌+◌, ◌^◌, ◌≤◌, ◌<◌, sym, arith}
 use Rattle.elf_image.proofs.Ranges.{passes_none}
+use Rattle.elf_image.proofs.Stacks.{granted_all, fewer_free}
 use Rattle.elf_image.proofs.address_map.World.may.Goals as goal
 
 pub returns-in_default : goal.returns-in_default
@@ -7,3 +8,8 @@ returns-in_default c =
     let inside : c.args.addr < 2 ^ 64 = omega arith in
     let passes : 2 ^ 64 ≤ c.args.addr + c.args.size = omega arith in
     sym (rw (← c.self.view_is) (passes_none _ _ c.args.right c.args.addr c.args.size c.self.invariant inside passes))
+
+pub returns-then-size-free_from : goal.returns-then-size-free_from
+returns-then-size-free_from c =
+    sym (granted_all c.args.self.now c.args.right c.args.addr c.args.size
+    (fewer_free c.args.self.now c.args.addr c.args.size c.free_from.result c.if-size-free_from.true c.free_from.ensures))
