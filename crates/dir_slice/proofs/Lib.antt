@@ -1,0 +1,9 @@
+pub mod Sets
+pub mod Sent
+pub mod Nodes
+pub mod Settling
+pub mod Maps
+pub mod Slices
+pub mod Starts
+pub mod Orderly
+pub mod Unfiled

@@ -1,0 +1,147 @@
+-- A home that knows tiles and the control server alone stays so.
+use Rattle.std.proofs.Common.{◌≡◌, ℕ, ◌≤◌, Bool, true, false, List, [], ◌∷◌, ◌++◌, sym, subst, inl, inr}
+use Rattle.std.specs.Prelude.{nat_lt, nat_eq, ◌==◌, if◌then◌else◌, Option, Some, None, IfSome}
+use Rattle.std.specs.List.{All}
+use Rattle.std.proofs.lemmas.List.Elements.{All-nil, All-cons, All-head, All-tail, All-filter, All-rest, All-same, All-push}
+use Rattle.sim_base.specs.declared.settings.Config.{Config}
+use Rattle.dir_slice.specs.declared.states.Request.{Request}
+use Rattle.dir_slice.specs.declared.states.State.{State}
+use Rattle.dir_slice.specs.declared.states.State.TheVariants.{Uncached, Shared, Modified, BusyInv, BusyFetch}
+use Rattle.dir_slice.specs.Line.{Home, Row, same, with_node, without, invalidate, serve, acked, acked_by, fetched, fetched_by, put, put_by, awaited, is_busy}
+use Rattle.dir_slice.specs.Directory.{Mail, served, settled, requested, with_data, acknowledged, fetch_answered, given_up}
+use Rattle.sim_base.specs.declared.lines.LineData.{LineData}
+use Rattle.dir_slice.specs.Made.{IsMade}
+use Rattle.dir_slice.specs.Nodes.{StateIsWithin, IsWithin, NextIsWithin}
+use Rattle.dir_slice.specs.Next.{IsNext}
+use Rattle.dir_slice.specs.declared.rows.Next.{Next}
+use Rattle.dir_slice.specs.declared.rows.Next.TheVariants.{ByRow, Stays}
+use Rattle.dir_slice.proofs.Sets.{cases_bool}
+
+All-with_node : (P : ℕ → Type 0) (x : ℕ) (nodes : List ℕ) → P x → All P nodes → All P (with_node x nodes)
+All-with_node P x [] here all = All-cons P x [] here (All-nil P)
+All-with_node P x (y ∷ ys) here all =
+    elim (cases_bool (nat_lt x y)) [
+      | inl t ↦ rw t (All-cons P x (y ∷ ys) here all)
+      | inr t ↦ elim (cases_bool (nat_eq x y)) [
+        | inl e ↦ rw (t, e) all
+        | inr e ↦ rw (t, e) (All-cons P y (with_node x ys) (All-head P y ys all) (All-with_node P x ys here (All-tail P y ys all)))
+      ]
+    ]
+
+-- the nodes that a state waits for are among its nodes
+pub awaited_within : (tiles : ℕ) (state : State) → StateIsWithin tiles state → All (λ node. node ≤ tiles) (awaited state)
+awaited_within tiles Uncached h = All-nil (λ node. node ≤ tiles)
+awaited_within tiles (Shared sharers) h = All-nil (λ node. node ≤ tiles)
+awaited_within tiles (Modified owner) h = All-nil (λ node. node ≤ tiles)
+awaited_within tiles (BusyInv requester left) h = h.1
+awaited_within tiles (BusyFetch write requester owner) h = All-cons (λ node. node ≤ tiles) owner [] h.1 (All-nil (λ node. node ≤ tiles))
+
+invalidate_within : (tiles r : ℕ) (left : List ℕ) → r ≤ tiles → All (λ node. node ≤ tiles) left → StateIsWithin tiles (invalidate r left).state
+invalidate_within tiles r [] from all = from
+invalidate_within tiles r (x ∷ xs) from all = (from, all)
+
+pub serve_within : (tiles : ℕ) (state : State) (write : Bool) (r : ℕ) → StateIsWithin tiles state → r ≤ tiles → StateIsWithin tiles (serve state write r).state
+serve_within tiles Uncached false r h from = All-cons (λ node. node ≤ tiles) r [] from (All-nil (λ node. node ≤ tiles))
+serve_within tiles Uncached true r h from = from
+serve_within tiles (Shared sharers) false r h from = All-with_node (λ node. node ≤ tiles) r sharers from h
+serve_within tiles (Shared sharers) true r h from = invalidate_within tiles r (without r sharers) from (All-filter _ (λ node. node ≤ tiles) sharers h)
+serve_within tiles (Modified owner) write r h from = (from, h)
+serve_within tiles (BusyInv requester left) write r h from = h
+serve_within tiles (BusyFetch w requester owner) write r h from = h
+
+pub served_within : (c : Config) (tile line : ℕ) (h : Home) (q : Request) → IsWithin c.tiles h → q.from ≤ c.tiles → IsWithin c.tiles (served c tile line h q).home
+served_within c tile line h q in_range from = record { state = serve_within c.tiles h.state q.write q.from in_range.state from; waiting = in_range.waiting }
+
+-- so a transaction that begins asks nodes of the machine
+pub asked_within : (tiles : ℕ) (before taken state : State) (row : Row) (write : Bool) (r : ℕ) → StateIsWithin tiles before → r ≤ tiles → taken ≡ before
+    → row ≡ serve taken write r → state ≡ row.state → All (λ node. node ≤ tiles) (awaited state)
+asked_within tiles before taken state row write r in_range from taken_is row_is state_is =
+    let after : StateIsWithin tiles state = rw (state_is, row_is, taken_is) (serve_within tiles before write r in_range from) in
+    awaited_within tiles state after
+
+-- without the first of the waiting requests, and with one more at the end
+pub later_within : (tiles : ℕ) (h : Home) (q : Request) (rest : List Request) → IsWithin tiles h → h.waiting ≡ q ∷ rest → IsWithin tiles (record h { waiting = rest })
+later_within tiles h q rest in_range e = record { state = in_range.state; waiting = All-rest (λ r. r.from ≤ tiles) q rest h.waiting e in_range.waiting }
+
+pub first_within : (tiles : ℕ) (h : Home) (q : Request) (rest : List Request) → IsWithin tiles h → h.waiting ≡ q ∷ rest → q.from ≤ tiles
+first_within tiles h q rest in_range e = All-head (λ r. r.from ≤ tiles) q rest (All-same (λ r. r.from ≤ tiles) (q ∷ rest) h.waiting (sym e) in_range.waiting)
+
+pub more_within : (tiles : ℕ) (h : Home) (q : Request) (requests : List Request) → IsWithin tiles h → q.from ≤ tiles → requests ≡ h.waiting ++ q ∷ [] → IsWithin tiles (record h { waiting = requests })
+more_within tiles h q requests in_range from e = record { state = in_range.state; waiting = rw e (All-push (λ r. r.from ≤ tiles) h.waiting q in_range.waiting from) }
+
+pub made_within : (c : Config) (tile line : ℕ) (h : Home) (q : Request) (rest : List Request) (next : Home) (out_old out_new : Mail) → IsWithin c.tiles h → h.waiting ≡ q ∷ rest
+    → IsMade (served c tile line (record h { waiting = rest }) q) next out_old out_new → IsWithin c.tiles next
+made_within c tile line h q rest next out_old out_new in_range e made =
+    let first : q.from ≤ c.tiles = first_within c.tiles h q rest in_range e in
+    rw made.home (served_within c tile line (record h { waiting = rest }) q (later_within c.tiles h q rest in_range e) first)
+
+acked_by_within : (tiles r : ℕ) (left : List ℕ) → r ≤ tiles → All (λ node. node ≤ tiles) left → StateIsWithin tiles (acked_by r left).state
+acked_by_within tiles r [] from all = from
+acked_by_within tiles r (x ∷ xs) from all = (from, all)
+
+fetched_by_within : (tiles : ℕ) (write : Bool) (r owner : ℕ) → r ≤ tiles → owner ≤ tiles → StateIsWithin tiles (fetched_by write r owner).state
+fetched_by_within tiles false r owner from owned = All-with_node (λ node. node ≤ tiles) r (owner ∷ []) from (All-cons (λ node. node ≤ tiles) owner [] owned (All-nil (λ node. node ≤ tiles)))
+fetched_by_within tiles true r owner from owned = from
+
+put_by_within : (tiles : ℕ) (write : Bool) (r : ℕ) → r ≤ tiles → StateIsWithin tiles (put_by write r).state
+put_by_within tiles false r from = All-cons (λ node. node ≤ tiles) r [] from (All-nil (λ node. node ≤ tiles))
+put_by_within tiles true r from = from
+
+-- the rows for answers name nodes of the machine
+abbrev RowsAreWithin : ℕ → Option Row → Type 0
+RowsAreWithin tiles found = IfSome found (λ row. StateIsWithin tiles row.state)
+
+pub acked_within : (tiles : ℕ) (state : State) (from : ℕ) → StateIsWithin tiles state → RowsAreWithin tiles (acked state from)
+acked_within tiles (BusyInv r left) from h = acked_by_within tiles r (without from left) h.0 (All-filter _ (λ node. node ≤ tiles) left h.1)
+acked_within tiles _ from h = tt
+
+if_row : (tiles : ℕ) (b : Bool) (row : Row) → StateIsWithin tiles row.state → RowsAreWithin tiles (if b then Some row else None)
+if_row tiles true row h = h
+if_row tiles false row h = tt
+
+pub fetched_within : (tiles : ℕ) (state : State) (from : ℕ) → StateIsWithin tiles state → RowsAreWithin tiles (fetched state from)
+fetched_within tiles (BusyFetch write r owner) from h = if_row tiles (from == owner) (fetched_by write r owner) (fetched_by_within tiles write r owner h.0 h.1)
+fetched_within tiles _ from h = tt
+
+pub put_within : (tiles : ℕ) (state : State) (from : ℕ) → StateIsWithin tiles state → RowsAreWithin tiles (put state from)
+put_within tiles (Modified owner) from h = if_row tiles (from == owner) (same Uncached) tt
+put_within tiles (BusyFetch write r owner) from h = if_row tiles (from == owner) (put_by write r) (put_by_within tiles write r h.0)
+put_within tiles _ from h = tt
+
+pub next_within : (tiles : ℕ) (h old : Home) (state taken : State) (next : Next) (found : State → Option Row) → IsWithin tiles h → taken ≡ h.state → old ≡ record h { state = state }
+    → IsNext next taken (found taken) → RowsAreWithin tiles (found h.state) → NextIsWithin tiles old next
+next_within tiles h old state taken (ByRow row) found in_range taken_is is found_is rows =
+    let of_home : found h.state ≡ Some row = subst (λ s. found s ≡ Some row) taken_is found_is in
+    let after : StateIsWithin tiles row.state = subst (RowsAreWithin tiles) of_home rows in
+    let of_row : IsWithin tiles (record h { state = row.state }) = record { state = after; waiting = in_range.waiting } in
+    rw is of_row
+next_within tiles h old state taken (Stays same) found in_range taken_is is found_is rows = tt
+
+-- a home stays so whatever it receives
+settled_within : (c : Config) (tile line : ℕ) (h : Home) (requests : List Request) → StateIsWithin c.tiles h.state → All (λ q. q.from ≤ c.tiles) requests
+    → IsWithin c.tiles (settled c tile line h requests).home
+settled_within c tile line h [] in_range all = record { state = in_range; waiting = All-nil (λ q. q.from ≤ c.tiles) }
+settled_within c tile line h (q ∷ rest) in_range all =
+    elim (cases_bool (is_busy h.state)) [
+      | inl t ↦ rw t (record { state = in_range; waiting = all })
+      | inr t ↦ let after : StateIsWithin c.tiles (serve h.state q.write q.from).state = serve_within c.tiles h.state q.write q.from in_range (All-head (λ r. r.from ≤ c.tiles) q rest all) in
+          rw t (settled_within c tile line (served c tile line h q).home rest after (All-tail (λ r. r.from ≤ c.tiles) q rest all))
+    ]
+
+pub requested_within : (c : Config) (tile line : ℕ) (h : Home) (q : Request) → IsWithin c.tiles h → q.from ≤ c.tiles → IsWithin c.tiles (requested c tile line h q).home
+requested_within c tile line h q in_range from =
+    settled_within c tile line (record h { waiting = h.waiting ++ q ∷ [] }) (h.waiting ++ q ∷ []) in_range.state (All-push (λ r. r.from ≤ c.tiles) h.waiting q in_range.waiting from)
+
+answered_within : (c : Config) (tile line : ℕ) (h : Home) (content : LineData) (found : Option Row) → IsWithin c.tiles h → RowsAreWithin c.tiles found
+    → IfSome (with_data c tile line h content found) (λ step. IsWithin c.tiles step.home)
+answered_within c tile line h content (Some row) in_range rows = settled_within c tile line (record h { state = row.state; memory = content }) h.waiting rows in_range.waiting
+answered_within c tile line h content None in_range rows = tt
+
+pub acknowledged_within : (c : Config) (tile line : ℕ) (h : Home) (from : ℕ) → IsWithin c.tiles h → IfSome (acknowledged c tile line h from) (λ step. IsWithin c.tiles step.home)
+acknowledged_within c tile line h from in_range = answered_within c tile line h h.memory (acked h.state from) in_range (acked_within c.tiles h.state from in_range.state)
+
+pub fetch_answered_within : (c : Config) (tile line : ℕ) (h : Home) (from : ℕ) (content : LineData) → IsWithin c.tiles h → IfSome (fetch_answered c tile line h from content) (λ step. IsWithin c.tiles step.home)
+fetch_answered_within c tile line h from content in_range = answered_within c tile line h content (fetched h.state from) in_range (fetched_within c.tiles h.state from in_range.state)
+
+pub given_up_within : (c : Config) (tile line : ℕ) (h : Home) (from : ℕ) (content : LineData) → IsWithin c.tiles h → IfSome (given_up c tile line h from content) (λ step. IsWithin c.tiles step.home)
+given_up_within c tile line h from content in_range = answered_within c tile line h content (put h.state from) in_range (put_within c.tiles h.state from in_range.state)

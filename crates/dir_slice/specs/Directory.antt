@@ -1,0 +1,138 @@
+-- A slice of the directory: the lines whose home is one tile. Every message is a row of the table; a request goes to
+-- the end of the line's waiting ones first. Then the waiting ones are served in order until a transaction is under
+-- way or none is left.
+use Rattle.std.specs.Prelude.{ℕ, ◌+◌, ◌-◌, ◌/◌, ◌==◌, ◌≡◌, Bool, true, false, List, [], ◌∷◌, ◌++◌, length, map, filter, fold, max, replicate, if◌then◌else◌, Option, Some, None, unwrap_or, Result, Ok, Err}
+use Rattle.std.specs.Option.{option_map}
+use Rattle.std.specs.List.{flat_map, range_with_len}
+use Rattle.std.specs.Ordering.{nat_cmp}
+use Rattle.std.specs.FinMap.{FinMap, get, insert, from_entries}
+use Rattle.sim_base.specs.declared.lines.LineData.{LineData}
+use Rattle.sim_base.specs.declared.memory.NoMemory.{NoMemory}
+use Rattle.sim_base.specs.declared.settings.Config.{Config}
+use Rattle.sim_base.specs.Numbering.{home_of}
+use Rattle.elf_image.specs.declared.program.Segment.{Segment}
+use Rattle.elf_image.specs.Layout.{Setup, initial_line}
+use Rattle.mesh_model.specs.Mesh.{hops_between}
+use Rattle.mesh_model.specs.Cost.{delay_of}
+use Rattle.wire_msg.specs.declared.messages.Msg.{Msg}
+use Rattle.wire_msg.specs.declared.messages.Msg.TheVariants.{DataS, DataM, Inv, Fetch, FetchInv}
+use Rattle.dir_slice.specs.declared.states.Request.{Request}
+use Rattle.dir_slice.specs.Line.{Home, Row, Sent, drop_copy, fetch, give, fresh, is_busy, serve, acked, fetched, put, awaited}
+
+-- messages, each with its receiver
+abbrev pub Mail : Type 0
+Mail = List (ℕ × Msg)
+
+-- the message of what is sent about a line, from its home
+abbrev pub message : ℕ → Home → Sent → ℕ × Msg
+message line h (drop_copy to) = (to, Inv line)
+message line h (fetch false to) = (to, Fetch line)
+message line h (fetch true to) = (to, FetchInv line)
+message line h (give false to) = (to, DataS line h.memory h.delay)
+message line h (give true to) = (to, DataM line h.memory h.delay)
+
+-- a home after a row or more, with what was sent
+pub record Step : Type 0 where
+  pub home : Home
+  pub mail : Mail
+
+-- the greatest number of hops from the home to one of these nodes, 0 where there is none
+abbrev pub farthest : Config → ℕ → List ℕ → ℕ
+farthest c tile nodes = fold (λ most x. max most (hops_between c tile x)) 0 nodes
+
+-- the line at this home with the state of a row
+abbrev pub in_row : ℕ → Home → Row → Step
+in_row line h row = record { home = record h { state = row.state }; mail = map (message line h) row.sent }
+
+-- a transaction begins: its delay is fixed by its requester and by the nodes that have to give up the line
+abbrev pub begun : Config → ℕ → ℕ → Home → Request → Row → Step
+begun c tile line h q row = in_row line (record h { delay = delay_of c q.from tile (farthest c tile (awaited row.state)) }) row
+
+abbrev pub served : Config → ℕ → ℕ → Home → Request → Step
+served c tile line h q = begun c tile line h q (serve h.state q.write q.from)
+
+-- the waiting requests are served in order until a transaction is under way or none is left
+abbrev pub before_mail : Mail → Step → Step
+before_mail mail s = record s { mail = mail ++ s.mail }
+
+abbrev pub settled : Config → ℕ → ℕ → Home → List Request → Step
+settled c tile line h [] = record { home = record h { waiting = [] }; mail = [] }
+settled c tile line h (q ∷ rest) =
+    if is_busy h.state then record { home = record h { waiting = q ∷ rest }; mail = [] }
+    else before_mail (served c tile line h q).mail (settled c tile line (served c tile line h q).home rest)
+
+abbrev pub settle : Config → ℕ → ℕ → Step → Step
+settle c tile line s = before_mail s.mail (settled c tile line s.home s.home.waiting)
+
+-- the messages; none where the table has no row, and then nothing changes and nothing is sent
+
+-- a request waits, and is served at once where nothing is under way
+abbrev pub requested : Config → ℕ → ℕ → Home → Request → Step
+requested c tile line h q = settle c tile line (record { home = record h { waiting = h.waiting ++ q ∷ [] }; mail = [] })
+
+-- a dropped copy is acknowledged
+abbrev pub acknowledged : Config → ℕ → ℕ → Home → ℕ → Option Step
+acknowledged c tile line h s = option_map (λ row. settle c tile line (in_row line h row)) (acked h.state s)
+
+-- the owner's data comes by a row, and is the home's memory from then on
+abbrev pub with_data : Config → ℕ → ℕ → Home → LineData → Option Row → Option Step
+with_data c tile line h content row = option_map (λ row. settle c tile line (in_row line (record h { memory = content }) row)) row
+
+abbrev pub fetch_answered : Config → ℕ → ℕ → Home → ℕ → LineData → Option Step
+fetch_answered c tile line h s content = with_data c tile line h content (fetched h.state s)
+
+abbrev pub given_up : Config → ℕ → ℕ → Home → ℕ → LineData → Option Step
+given_up c tile line h s content = with_data c tile line h content (put h.state s)
+
+-- a slice: its tile, how many tiles the machine has, the lines that it knows of, and whether it is spent, as it is
+-- once memory ran out in a call
+pub record Slice : Type 0 where
+  pub tile : ℕ
+  pub tiles : ℕ
+  pub homes : FinMap nat_cmp Home
+  pub spent : Bool
+
+-- a line of zeros
+unfoldable pub zero_line : LineData
+zero_line = record { bytes = replicate 64 0 }
+
+-- a line at its home: one that isn't known yet is fresh, and zero
+abbrev pub home_at : Slice → ℕ → Home
+home_at s line = unwrap_or (get s.homes line) (fresh zero_line)
+
+-- the slice with a line's step made
+abbrev pub with_home : Slice → ℕ → Home → Slice
+with_home s line h = record s { homes = insert s.homes line h }
+
+abbrev pub after_step : Slice → ℕ → Option Step → Slice
+after_step s line None = s
+after_step s line (Some step) = with_home s line step.home
+
+abbrev pub mail_of : Option Step → Mail
+mail_of None = []
+mail_of (Some step) = step.mail
+
+-- what a call answers: Ok with the step made and its messages sent, where the slice isn't spent; after want of
+-- memory the slice is spent, and nothing is said of what was sent
+abbrev pub Answers : Result (Unit {0}) NoMemory → Slice → Slice → Mail → Mail → ℕ → Option Step → Type 0
+Answers (Ok done) old new out_old out_new line step =
+    (old.spent ≡ false) × (new ≡ after_step old line step) × (out_new ≡ out_old ++ mail_of step)
+Answers (Err e) old new out_old out_new line step = new.spent ≡ true
+
+-- the lines that have a byte of a segment's file
+abbrev pub file_lines : Segment → List ℕ
+file_lines s =
+    if length s.bytes == 0 then [] else range_with_len (s.vaddr / 64) ((s.vaddr + length s.bytes - 1) / 64 - s.vaddr / 64 + 1)
+
+-- those whose home is a tile
+abbrev pub homed_lines : Setup → ℕ → List ℕ
+homed_lines w tile = filter (λ line. home_of w.config line == tile) (flat_map file_lines w.image.segments)
+
+-- a slice before the program runs: each line has what the image gives it
+unfoldable pub start_slice : Setup → ℕ → Slice
+start_slice w tile = record {
+  tile = tile;
+  tiles = w.config.tiles;
+  homes = from_entries (map (λ line. (line, fresh (initial_line w line))) (homed_lines w tile));
+  spent = false;
+}

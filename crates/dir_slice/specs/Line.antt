@@ -1,0 +1,108 @@
+-- One line at its home: an MSI directory protocol with busy states, after the full-map directories of Graphite
+-- (HPCA 2010). Nodes are numbers; a set of nodes is the list of them, ascending. Delays stand beside the protocol:
+-- a home keeps the one that was fixed when its last transaction began, and every line of data goes out with it.
+use Rattle.std.specs.Prelude.{ℕ, ◌==◌, not, Bool, true, false, nat_lt, List, [], ◌∷◌, map, filter, if◌then◌else◌, Option, Some, None}
+use Rattle.sim_base.specs.declared.lines.LineData.{LineData}
+use Rattle.dir_slice.specs.declared.states.State.{State}
+use Rattle.dir_slice.specs.declared.states.State.TheVariants.{Uncached, Shared, Modified, BusyInv, BusyFetch}
+use Rattle.dir_slice.specs.declared.states.Request.{Request}
+
+-- sets of nodes
+
+-- a set with one node more
+abbrev pub with_node : ℕ → List ℕ → List ℕ
+with_node x [] = x ∷ []
+with_node x (y ∷ ys) = if nat_lt x y then x ∷ y ∷ ys else (if x == y then y ∷ ys else y ∷ with_node x ys)
+
+-- a set without a node
+abbrev pub without : ℕ → List ℕ → List ℕ
+without x nodes = filter (λ y. not (y == x)) nodes
+
+-- what a home sends: to drop a copy; to give a line up, for a reader (it stays in S) or for a writer; the line, to
+-- read or to write
+pub data Sent : Type 0 where
+  drop_copy : ℕ → Sent
+  fetch : Bool → ℕ → Sent
+  give : Bool → ℕ → Sent
+
+-- what a row of the directory's table gives: the next state, and what is sent, in order
+pub record Row : Type 0 where
+  pub state : State
+  pub sent : List Sent
+
+-- nothing changes, and nothing is sent
+abbrev pub same : State → Row
+same state = record { state = state; sent = [] }
+
+-- the line goes to a reader or to a writer
+abbrev pub given : State → Bool → ℕ → Row
+given state write to = record { state = state; sent = give write to ∷ [] }
+
+-- whether a transaction is under way
+abbrev pub is_busy : State → Bool
+is_busy (BusyInv requester left) = true
+is_busy (BusyFetch write requester owner) = true
+is_busy _ = false
+
+-- the rows for requests, which are served only while no transaction is under way
+
+-- a writer among sharers: the others drop their copies first
+abbrev pub invalidate : ℕ → List ℕ → Row
+invalidate r [] = given (Modified r) true r
+invalidate r (x ∷ xs) = record { state = BusyInv r (x ∷ xs); sent = map drop_copy (x ∷ xs) }
+
+abbrev pub serve : State → Bool → ℕ → Row
+serve Uncached false r = given (Shared (r ∷ [])) false r
+serve Uncached true r = given (Modified r) true r
+serve (Shared sharers) false r = given (Shared (with_node r sharers)) false r
+serve (Shared sharers) true r = invalidate r (without r sharers)
+serve (Modified owner) write r = record { state = BusyFetch write r owner; sent = fetch write owner ∷ [] }
+serve busy write r = same busy
+
+-- the rows for answers; none where the table has no row
+
+-- a copy was dropped; when the last one is, the writer gets the line
+abbrev pub acked_by : ℕ → List ℕ → Row
+acked_by r [] = given (Modified r) true r
+acked_by r (x ∷ xs) = same (BusyInv r (x ∷ xs))
+
+abbrev pub acked : State → ℕ → Option Row
+acked (BusyInv r left) s = Some (acked_by r (without s left))
+acked _ s = None
+
+-- the owner answers a fetch: a reader shares the line with it, a writer gets it alone
+abbrev pub fetched_by : Bool → ℕ → ℕ → Row
+fetched_by false r owner = given (Shared (with_node r (owner ∷ []))) false r
+fetched_by true r owner = given (Modified r) true r
+
+abbrev pub fetched : State → ℕ → Option Row
+fetched (BusyFetch write r owner) s = if s == owner then Some (fetched_by write r owner) else None
+fetched _ s = None
+
+-- the owner gives the line up by itself, perhaps while it is asked for it
+abbrev pub put_by : Bool → ℕ → Row
+put_by false r = given (Shared (r ∷ [])) false r
+put_by true r = given (Modified r) true r
+
+abbrev pub put : State → ℕ → Option Row
+put (Modified owner) s = if s == owner then Some (same Uncached) else None
+put (BusyFetch write r owner) s = if s == owner then Some (put_by write r) else None
+put _ s = None
+
+-- the nodes that the state waits for, which have to give up or share the line
+abbrev pub awaited : State → List ℕ
+awaited (BusyInv r left) = left
+awaited (BusyFetch write r owner) = owner ∷ []
+awaited _ = []
+
+-- a line at its home: its state; the home's memory; the requests that wait, in order of arrival; and the delay
+-- that was fixed when the last transaction began
+pub record Home : Type 0 where
+  pub state : State
+  pub memory : LineData
+  pub waiting : List Request
+  pub delay : ℕ
+
+-- a line of which nothing was ever heard
+abbrev pub fresh : LineData → Home
+fresh memory = record { state = Uncached; memory = memory; waiting = []; delay = 0 }

@@ -1,0 +1,133 @@
+ghost use Rattle.std.specs.Prelude.{◌≡◌, ◌==◌, None, IfOk, OnErr};
+ghost use Rattle.std.specs.FinMap as map;
+ghost use Rattle.std.specs.Option.{option_copied};
+ghost use Rattle.dir_slice.specs.Directory.{zero_line, file_lines, start_slice};
+ghost use Rattle.dir_slice.specs.Line.{fresh};
+ghost use Rattle.dir_slice.specs.Made.{without_home};
+ghost use Rattle.dir_slice.specs.Start.{has, PutsLines};
+ghost use Rattle.elf_image.specs.Image.{IsSegment};
+
+use crate::home::Home;
+use elf_image::{Segment, World};
+use sim_base::{Line, LineData, NoMemory, NodeId};
+use std::alloc::Global;
+use std::collections::BTreeMap;
+use std::marker::Model;
+use std::mem;
+
+/// How many bytes a line has.
+const LINE_BYTES: u64 = 64;
+
+/// What a line holds that no file of the program has a byte of.
+#[tactic(auto, unfolding(crate::specs::Directory::zero_line))]
+pub(crate) fn zero_line() -> LineData
+    ensures { result ≡ zero_line }
+{
+    LineData { bytes: [0; 64] }
+}
+
+/// The lines that a slice of the directory knows of, which contracts see as a finite map.
+#[derive(Drop)]
+pub(crate) struct Homes {
+    known: BTreeMap<Line, Home>,
+}
+
+impl Model for Homes {
+    ghost use Rattle.std.specs.Coded.{coded_ℕ};
+    ghost use Rattle.std.specs.FinMap as map;
+    ghost use Rattle.std.specs.Ordering.{nat_cmp};
+    ghost use Rattle.dir_slice.specs.Codes.{home_code};
+    ghost use Rattle.dir_slice.specs.Line.{Home};
+
+    ghost Value = { map.FinMap nat_cmp Home };
+
+    ghost coded = { map.code coded_ℕ home_code };
+
+    ghost view = { λ h. map.from_entries h.known.entries };
+}
+
+impl Homes {
+    /// No lines yet.
+    pub(crate) fn new(alloc: Global) -> Homes
+        ensures { result ≡ map.empty }
+    {
+        Homes {
+            known: BTreeMap::new(alloc),
+        }
+    }
+
+    /// The lines of a tile before the program runs.
+    pub(crate) fn start(alloc: Global, world: &World, tile: NodeId) -> Result<Homes, NoMemory>
+        ensures { IfOk result (λ homes. homes ≡ (start_slice world.now tile).homes) }
+    {
+        let mut homes = Homes::new(alloc);
+        for segment in world.image().segments() {
+            homes.put_segment(alloc, world, tile, segment)?;
+        }
+        Ok(homes)
+    }
+
+    /// Puts the lines that have a byte of a segment's file.
+    fn put_segment(
+        &mut self,
+        alloc: Global,
+        world: &World,
+        tile: NodeId,
+        segment: &Segment,
+    ) -> Result<(), NoMemory>
+        requires { IsSegment segment.now }
+        ensures { IfOk result (λ _. PutsLines world.now tile (has (file_lines segment.now)) self.old self.new) }
+    {
+        let len = segment.bytes.len() as u64;
+        if len == 0 {
+            return Ok(());
+        }
+        let first = segment.vaddr / LINE_BYTES;
+        let last = (segment.vaddr + len - 1) / LINE_BYTES;
+        for line in first..last + 1 {
+            self.put_line(alloc, world, tile, line)?;
+        }
+        Ok(())
+    }
+
+    /// Puts a line with what the image gives it, if the tile is its home.
+    fn put_line(
+        &mut self,
+        alloc: Global,
+        world: &World,
+        tile: NodeId,
+        line: Line,
+    ) -> Result<(), NoMemory>
+        ensures { IfOk result (λ _. PutsLines world.now tile (λ q. q == line) self.old self.new) }
+    {
+        if world.config().home(line) == tile {
+            self.put(line, Home::fresh(alloc, world.initial_line(line)))?;
+        }
+        Ok(())
+    }
+
+    /// A line at its home, if it is known.
+    pub(crate) fn get(&self, line: Line) -> Option<&Home>
+        ensures { option_copied result ≡ map.get self.now line }
+    {
+        self.known.get(&line)
+    }
+
+    /// Takes a line's home out, if it is known. A fresh one stands in its place for the while.
+    pub(crate) fn take(&mut self, alloc: Global, line: Line) -> Option<Home>
+        ensures home { result ≡ map.get self.old line }
+        ensures after { self.new ≡ without_home self.old line }
+    {
+        let slot = self.known.get_mut(&line)?;
+        Some(mem::replace(slot, Home::fresh(alloc, zero_line())))
+    }
+
+    /// Puts a line's home.
+    pub(crate) fn put(&mut self, line: Line, home: Home) -> Result<(), NoMemory>
+        ensures ok { IfOk result (λ _. self.new ≡ map.insert self.old line home) }
+        ensures err { OnErr result (self.new ≡ self.old) }
+    {
+        self.known.insert(line, home)?;
+        Ok(())
+    }
+}
