@@ -1,3 +1,4 @@
+pub mod Apart
 pub mod Sizes
 pub mod Stacks
 pub mod Ranges

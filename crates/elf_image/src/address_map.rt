@@ -5,7 +5,6 @@ ghost use Rattle.elf_image.specs.Layout.{layout_of, IsLaidOut, stack_end, last_e
 ghost use Rattle.sim_base.specs.Settings.{IsChecked};
 
 use crate::program::{Image, Segment};
-use byteorder::{ByteOrder, LittleEndian};
 use sim_base::{Config, Line, LineData, NodeId};
 use std::marker::Model;
 
@@ -152,16 +151,8 @@ impl World {
     pub fn fetch(&self, pc: u64) -> Option<u32>
         ensures { result ≡ fetch self.now pc }
     {
-        if !self.image.is_executable(pc) {
-            return None;
-        }
-        let word = [
-            self.start_byte(pc),
-            self.start_byte(pc + 1),
-            self.start_byte(pc + 2),
-            self.start_byte(pc + 3),
-        ];
-        Some(LittleEndian::read_u32(&word))
+        let segment = self.image.executable_at(pc)?;
+        Some(segment.word_at(pc))
     }
 
     /// Whether each of the `size` bytes from `addr` has a right. A range that passes 2^64 has none.

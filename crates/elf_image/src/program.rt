@@ -1,9 +1,11 @@
-ghost use Rattle.std.specs.Prelude.{◌≡◌, ◌+◌, ◌^◌, ◌<◌, ◌≤◌, find, IfSome};
-ghost use Rattle.std.specs.Bool.{OnTrue};
+ghost use Rattle.std.specs.Prelude.{◌≡◌, ◌+◌, ◌^◌, ◌<◌, ◌≤◌, ◌&&◌, find, map, IfSome, IsTrue};
+ghost use Rattle.std.specs.List.{range_with_len};
+ghost use Rattle.byteorder.specs.Endian.{little_number};
 ghost use Rattle.std.specs.Option.{option_copied};
-ghost use Rattle.elf_image.specs.Layout.{byte_of, holds_word, is_executable};
+ghost use Rattle.elf_image.specs.Layout.{byte_of, holds_word};
 ghost use Rattle.elf_image.specs.Image.{holds, grants_execute, grants_write, grants_read, some_reads, some_writes, IsProgram};
 
+use byteorder::{ByteOrder, LittleEndian};
 use sim_base::Bytes;
 use std::marker::Model;
 
@@ -42,6 +44,20 @@ impl Segment {
     {
         let place = (address - self.vaddr) as usize;
         self.bytes.as_slice().get(place).copied().unwrap_or(0)
+    }
+
+    /// The four bytes at an address before the program runs, as a little-endian number.
+    pub(crate) fn word_at(&self, address: u64) -> u32
+        requires word { IsTrue (holds_word self.now address) }
+        requires low { address + 4 ≤ 2 ^ 64 }
+        ensures { result ≡ little_number 4 (map (byte_of self.now) (range_with_len address 4)) }
+    {
+        LittleEndian::read_u32(&[
+            self.start_byte(address),
+            self.start_byte(address + 1),
+            self.start_byte(address + 2),
+            self.start_byte(address + 3),
+        ])
     }
 
     /// Whether its bytes may be executed.
@@ -136,11 +152,13 @@ impl Image {
             .any(|segment| segment.is_writable() && segment.holds(address))
     }
 
-    /// Whether one executable segment has the four bytes at an address.
-    pub(crate) fn is_executable(&self, address: u64) -> bool
-        ensures value { result ≡ is_executable self.now address }
-        ensures low { OnTrue result (address + 3 < 2 ^ 32) }
+    /// The first executable segment that has the four bytes at an address.
+    pub(crate) fn executable_at(&self, address: u64) -> Option<&Segment>
+        ensures value { option_copied result ≡ find (λ s. grants_execute s && holds_word s address) self.now.segments }
+        ensures word { IfSome result (λ s. IsTrue (holds_word s.now address)) }
+        ensures low { IfSome result (λ s. address + 3 < 2 ^ 32) }
+        ensures program { IsProgram self.now }
     {
-        self.segments.iter().any(|segment| segment.is_executable() && segment.holds_word(address))
+        self.segments.iter().find(|segment| segment.is_executable() && segment.holds_word(address))
     }
 }
