@@ -19,7 +19,7 @@ impl Model for Bytes {
 }
 
 impl Bytes {
-    /// No bytes yet, with room for `room` of them.
+    /// No bytes yet, with room for `room` of them. Contracts don't see the room; those of a [`crate::Buffer`] do.
     pub fn new(alloc: Global, room: usize) -> Result<Bytes, NoMemory>
         ensures { IfOk result (λ bytes. bytes ≡ []) }
     {

@@ -4,6 +4,7 @@
 #![tactic(auto)]
 
 mod actions;
+mod buffer;
 mod byte_string;
 mod ends;
 mod kinds;
@@ -14,6 +15,7 @@ mod settings;
 mod words;
 
 pub use actions::{Action, NodeId};
+pub use buffer::Buffer;
 pub use byte_string::Bytes;
 pub use ends::{Cause, End};
 pub use kinds::{CostClass, Kind, Policy};
