@@ -1,4 +1,5 @@
 pub mod Apart
+pub mod Lookup
 pub mod Sizes
 pub mod Stacks
 pub mod Ranges
@@ -6,3 +7,4 @@ pub mod Loads
 pub mod Refusals
 pub mod Accepted
 pub mod Written
+pub mod ValidRows

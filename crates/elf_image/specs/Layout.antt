@@ -1,9 +1,11 @@
 -- Where a program's segments, its heap and its stack lie in memory, and who may read, write and execute
 -- what. This simulator's own; a word is four bytes in little-endian order, as the RISC-V ISA manual has it.
-use Rattle.std.specs.Prelude.{ℕ, ◌+◌, ◌-◌, ◌*◌, ◌/◌, ◌&&◌, ◌||◌, ◌≡◌, ◌<◌, ◌≤◌, ◌^◌, true, Bool, List, ◌++◌, map, nat_lt, nat_le, max, fold, find, if◌then◌else◌, Option, Some, None, slice_index}
+use Rattle.std.specs.Prelude.{ℕ, ◌+◌, ◌-◌, ◌*◌, ◌/◌, ◌%◌, ◌==◌, ◌&&◌, ◌||◌, ◌≡◌, ◌<◌, ◌≤◌, ◌^◌, true, Bool, List, ◌++◌, map, nat_lt, nat_le, max, fold, find, if◌then◌else◌, Option, Some, None, slice_index, option_and_then}
 use Rattle.std.specs.List.{list_any, list_all, flat_map, range_with_len}
 use Rattle.std.specs.Option.{option_map_or}
 use Rattle.byteorder.specs.Endian.{little_number}
+use Rattle.rv_decode.specs.declared.instr.Instr.{Instr}
+use Rattle.rv_decode.specs.Table.{row}
 use Rattle.sim_base.specs.declared.lines.LineData.{LineData}
 use Rattle.sim_base.specs.declared.settings.Config.{Config}
 use Rattle.sim_base.specs.Settings.{IsChecked}
@@ -121,6 +123,11 @@ is_executable p address = list_any (λ s. grants_execute s && holds_word s addre
 -- it is the word of the start.
 abbrev pub fetch : Setup → ℕ → Option ℕ
 fetch w pc = if is_executable w.image pc then Some (little_number 4 (map (start_byte w) (range_with_len pc 4))) else None
+
+-- the instruction at an address: the row of the word that is fetched there. Every pc of a run is a multiple of
+-- 4, and other addresses have none
+unfoldable pub instruction : Setup → ℕ → Option Instr
+instruction w pc = if pc % 4 == 0 then option_and_then row (fetch w pc) else None
 
 -- the addresses of a segment and of a tile's stack, and all that are mapped
 abbrev pub addresses : Segment → List ℕ

@@ -1,3 +1,4 @@
+pub mod Decoded
 pub mod File
 pub mod Header
 pub mod Image

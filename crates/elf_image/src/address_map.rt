@@ -1,10 +1,13 @@
-ghost use Rattle.std.specs.Prelude.{◌≡◌, ◌+◌, ◌*◌, ◌^◌, ◌<◌, ◌≤◌, nat_lt, All};
+ghost use Rattle.std.specs.Prelude.{◌≡◌, ◌+◌, ◌*◌, ◌^◌, ◌<◌, ◌≤◌, nat_lt, All, IfSome};
 ghost use Rattle.std.specs.Bool.{OnTrue};
+ghost use Rattle.std.specs.Option.{option_copied};
+ghost use Rattle.rv_decode.specs.Valid.{IsValid};
 ghost use Rattle.elf_image.specs.Image.{IsSegment, IsProgram};
-ghost use Rattle.elf_image.specs.Layout.{layout_of, IsLaidOut, stack_end, last_end, round_up, is_heap, is_stack, is_free, AreFree, is_readable, is_writable, has_right, may, start_byte, initial_line, fetch};
+ghost use Rattle.elf_image.specs.Layout.{layout_of, IsLaidOut, stack_end, last_end, round_up, is_heap, is_stack, is_free, AreFree, is_readable, is_writable, has_right, may, start_byte, initial_line, fetch, instruction};
 ghost use Rattle.sim_base.specs.Settings.{IsChecked};
 
 use crate::program::{Image, Segment};
+use rv_decode::Instr;
 use sim_base::{Config, Line, LineData, NodeId};
 use std::marker::Model;
 
@@ -153,6 +156,16 @@ impl World {
     {
         let segment = self.image.executable_at(pc)?;
         Some(segment.word_at(pc))
+    }
+
+    /// The instruction at an address, lent: that of the word that [`World::fetch`] gives there, decoded when the
+    /// image was made. None where the address can't be fetched from, isn't a multiple of 4, as every pc of a run
+    /// is, or the word has no row.
+    pub fn instruction(&self, pc: u64) -> Option<&Instr>
+        ensures value { option_copied result ≡ instruction self.now pc }
+        ensures valid { IfSome result (λ instr. IsValid instr.now) }
+    {
+        self.image.instruction(pc)
     }
 
     /// Whether each of the `size` bytes from `addr` has a right. A range that passes 2^64 has none.

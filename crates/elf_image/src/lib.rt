@@ -3,6 +3,7 @@
 #![tactic(auto)]
 
 mod address_map;
+mod decoded;
 mod faults;
 mod headers;
 mod program;

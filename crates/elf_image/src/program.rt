@@ -1,12 +1,16 @@
-ghost use Rattle.std.specs.Prelude.{◌≡◌, ◌+◌, ◌^◌, ◌<◌, ◌≤◌, ◌&&◌, find, map, IfSome, IsTrue};
+ghost use Rattle.std.specs.Prelude.{◌≡◌, ◌+◌, ◌^◌, ◌<◌, ◌≤◌, ◌&&◌, find, map, IfSome, IfOk, IsTrue};
 ghost use Rattle.std.specs.List.{range_with_len};
 ghost use Rattle.byteorder.specs.Endian.{little_number};
 ghost use Rattle.std.specs.Option.{option_copied};
 ghost use Rattle.elf_image.specs.Layout.{byte_of, holds_word};
+ghost use Rattle.elf_image.specs.Decoded.{row_at, program_row};
 ghost use Rattle.elf_image.specs.Image.{holds, grants_execute, grants_write, grants_read, some_reads, some_writes, IsProgram};
 
+use crate::decoded::{Decoded, decode_all, first_found};
 use byteorder::{ByteOrder, LittleEndian};
-use sim_base::Bytes;
+use rv_decode::{Instr, decode};
+use sim_base::{Bytes, NoMemory};
+use std::alloc::Global;
 use std::marker::Model;
 
 /// A part of a program that is loaded into memory: the addresses from `vaddr` to `vaddr + memsz`.
@@ -60,6 +64,18 @@ impl Segment {
         ])
     }
 
+    /// The instruction at an address, if the segment has its four bytes and the word has a row.
+    #[tactic(auto, unfolding(crate::specs::Decoded::row_at))]
+    pub(crate) fn instruction_at(&self, address: u64) -> Option<Instr>
+        requires { address + 4 ≤ 2 ^ 64 }
+        ensures { result ≡ row_at self.now address }
+    {
+        if !self.holds_word(address) {
+            return None;
+        }
+        decode(self.word_at(address))
+    }
+
     /// Whether its bytes may be executed.
     pub(crate) fn is_executable(&self) -> bool
         ensures { result ≡ grants_execute self.now }
@@ -84,30 +100,37 @@ impl Segment {
 
 /// A program that can be laid out in memory and started. Its segments don't overlap, end at or below
 /// 2^32 and have at most 268,435,456 bytes in all, none can be both written and executed, and the entry
-/// is a multiple of 4 in an executable one.
+/// is a multiple of 4 in an executable one. The executable ones stand decoded beside them.
 #[derive(Drop)]
 pub struct Image {
     entry: u64,
     segments: Vec<Segment>,
+    decoded: Vec<Decoded>,
 }
 
 impl Model for Image {
-    ghost use Rattle.elf_image.specs.Image.{Program, IsProgram};
+    ghost use Rattle.elf_image.specs.Image.{Program};
+    ghost use Rattle.elf_image.specs.Decoded.{IsDecoded};
 
     ghost Value = { Program };
 
     ghost view = { λ i. record { entry = i.entry; segments = i.segments.items } };
 
-    ghost invariant = { λ i. IsProgram (record { entry = i.entry; segments = i.segments.items }) };
+    ghost invariant = { λ i. IsDecoded (record { entry = i.entry; segments = i.segments.items }) i.decoded.items };
 }
 
 impl Image {
-    /// The image of an entry and segments that make a program.
-    pub(crate) fn from_parts(entry: u64, segments: Vec<Segment>) -> Image
+    /// The image of an entry and segments that make a program, whose executable segments it decodes.
+    pub fn new(alloc: Global, entry: u64, segments: Vec<Segment>) -> Result<Image, NoMemory>
         requires { IsProgram (record { entry = entry; segments = segments.items }) }
-        ensures { result ≡ record { entry = entry; segments = segments.items } }
+        ensures { IfOk result (λ image. image ≡ record { entry = entry; segments = segments.items }) }
     {
-        Image { entry, segments }
+        let decoded = decode_all(alloc, segments.as_slice())?;
+        Ok(Image {
+            entry,
+            segments,
+            decoded,
+        })
     }
 
     /// The address of the first instruction.
@@ -160,5 +183,17 @@ impl Image {
         ensures program { IsProgram self.now }
     {
         self.segments.iter().find(|segment| segment.is_executable() && segment.holds_word(address))
+    }
+
+    /// Lends the instruction at an address, if one executable segment has its four bytes and the word has a row.
+    /// An address that isn't a multiple of 4 has none.
+    #[tactic(auto, unfolding(crate::specs::Decoded::program_row))]
+    pub(crate) fn instruction(&self, pc: u64) -> Option<&Instr>
+        ensures value { option_copied result ≡ program_row self.now pc }
+    {
+        if pc % 4 != 0 {
+            return None;
+        }
+        first_found(self.decoded.as_slice(), pc)
     }
 }

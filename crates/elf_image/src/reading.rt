@@ -18,7 +18,7 @@ pub fn read_image(alloc: Global, bytes: &[u8]) -> Result<Image, ImageRefusal>
 {
     let loaded = read_loads(alloc, bytes)?;
     let segments = read_segments(alloc, bytes, loaded.as_slice())?;
-    Ok(Image::from_parts(entry_of(bytes), segments))
+    Ok(Image::new(alloc, entry_of(bytes), segments)?)
 }
 
 /// The loaded headers of a file that is taken, or why it is refused.
