@@ -1,11 +1,12 @@
 -- Files and a stream that lie in memory, this simulator's own.
-use Rattle.std.specs.Prelude.{◌≡◌, ◌+◌, ◌==◌, ◌&&◌, ℕ, Bool, true, false, if◌then◌else◌, List, [], Option, Some, None, Result, Ok, Err, String, Vec, string_bytes, bytes_eq, option_map, unwrap_or, take, length, find, min, nat_le, nat_lt}
+use Rattle.std.specs.Prelude.{◌≡◌, ◌+◌, ◌==◌, ℕ, Bool, true, false, if◌then◌else◌, List, [], Option, Some, None, Result, Ok, Err, String, Vec, string_bytes, bytes_eq, option_map, unwrap_or, take, length, find, min, nat_le}
 use Rattle.std.specs.List.{list_any}
 use Rattle.std.specs.declared.alloc.Global.{Global}
 use Rattle.sim_outside.specs.declared.reading.FileAnswer.{FileAnswer}
 use Rattle.sim_outside.specs.declared.reading.FileAnswer.TheVariants.{Failed, TooLong, NoMemory}
 use Rattle.sim_outside.specs.declared.printing.Failed.{Failed as StreamFailed}
 use Rattle.sim_outside.specs.Fault.{raised}
+use Rattle.sim_outside.specs.Sink.{is_fault}
 
 -- what a name holds: the first pair of that name counts
 abbrev pub held : List (String Global × Vec ℕ Global) → List ℕ → Option (List ℕ)
@@ -46,7 +47,6 @@ read_faults_after answer faults = faults
 abbrev pub portion : List ℕ → ℕ → ℕ → ℕ
 portion piece most left = min (length piece) (min most left)
 
--- how many faults there were: a call that fails is one, and one that takes nothing of a piece that isn't empty
+-- how many faults there were
 abbrev pub faults_after : Result ℕ StreamFailed → List ℕ → ℕ → ℕ
-faults_after (Err _) piece faults = raised faults
-faults_after (Ok k) piece faults = if (k == 0) && nat_lt 0 (length piece) then raised faults else faults
+faults_after answer piece faults = if is_fault answer piece then raised faults else faults

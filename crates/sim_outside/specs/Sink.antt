@@ -1,11 +1,14 @@
 -- What putting a piece of output answers, this simulator's own.
-use Rattle.std.specs.Prelude.{◌≡◌, ◌≤◌, ◌<◌, ℕ, List, Option, Result, Ok, Err, length, take}
+use Rattle.std.specs.Prelude.{◌≡◌, ◌==◌, ◌&&◌, ◌≤◌, Bool, true, ℕ, List, Option, Result, Ok, Err, length, nat_lt, take}
 use Rattle.sim_outside.specs.declared.printing.Failed.{Failed}
-use Rattle.sim_outside.specs.Fault.{Rose}
 use Rattle.sim_outside.specs.Told.{Took}
 
--- an answer, with the piece, what is told of the bytes taken before and now, and the count of faults before and now
-abbrev pub Put : Result ℕ Failed → List ℕ → Option (List ℕ) → Option (List ℕ) → ℕ → ℕ → Type 0
-Put (Ok k) piece taken after before now =
-    (k ≤ length piece) × Took taken after (take k piece) × (k ≡ 0 → 0 < length piece → Rose before now)
-Put (Err _) piece taken after before now = (after ≡ taken) × Rose before now
+-- whether an answer for a piece is a fault: it failed, or took nothing of a piece that isn't empty
+abbrev pub is_fault : Result ℕ Failed → List ℕ → Bool
+is_fault (Ok k) piece = (k == 0) && nat_lt 0 (length piece)
+is_fault (Err _) piece = true
+
+-- an answer, with the piece and what is told of the bytes taken before and now
+abbrev pub Put : Result ℕ Failed → List ℕ → Option (List ℕ) → Option (List ℕ) → Type 0
+Put (Ok k) piece taken after = (k ≤ length piece) × Took taken after (take k piece)
+Put (Err _) piece taken after = after ≡ taken

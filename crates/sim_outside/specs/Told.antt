@@ -1,15 +1,19 @@
 -- What the outside tells of the bytes that it holds or took, this simulator's own: `None` tells nothing.
-use Rattle.std.specs.Prelude.{◌≡◌, ◌<◌, ◌++◌, ℕ, List, Option, Some, None, length, take}
+use Rattle.std.specs.Prelude.{◌≡◌, ◌++◌, ℕ, List, Option, Some, None}
 
--- where contents are told, they are these
-abbrev pub Tells : Option (List ℕ) → List ℕ → Type 0
-Tells None bytes = Unit {0}
-Tells (Some contents) bytes = contents ≡ bytes
+-- what files hold, told of every name or of none: the bytes of a name, or that the name isn't there
+abbrev pub Contents : Type 0
+Contents = Option (List ℕ → Option (List ℕ))
 
--- where contents are told, these bytes begin them, and they are longer than the limit
-abbrev pub Exceeds : Option (List ℕ) → List ℕ → ℕ → Type 0
-Exceeds None start limit = Unit {0}
-Exceeds (Some contents) start limit = (take (length start) contents ≡ start) × (limit < length contents)
+-- where contents are told, the name is there and holds these bytes
+abbrev pub Holds : Contents → List ℕ → List ℕ → Type 0
+Holds None name bytes = Unit {0}
+Holds (Some held) name bytes = held name ≡ Some bytes
+
+-- where contents are told, the name is there and holds bytes that begin with these
+abbrev pub HoldsFront : Contents → List ℕ → List ℕ → Type 0
+HoldsFront None name front = Unit {0}
+HoldsFront (Some held) name front = (rest : List ℕ) × (held name ≡ Some (front ++ rest))
 
 -- where the bytes taken are told, these were added at their end
 abbrev pub Took : Option (List ℕ) → Option (List ℕ) → List ℕ → Type 0

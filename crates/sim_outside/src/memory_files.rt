@@ -1,4 +1,4 @@
-ghost use Rattle.std.specs.Prelude.{◌≡◌, ◌≤◌, ℕ, List, [], option_map};
+ghost use Rattle.std.specs.Prelude.{◌≡◌, ◌≤◌, ℕ, List, [], Some, option_map};
 ghost use Rattle.sim_outside.specs.Files.{ReadAll};
 ghost use Rattle.sim_outside.specs.Memory.{held, is_to_fail, reading_of, IsReading, bytes_read, calls_after, read_faults_after};
 
@@ -54,16 +54,16 @@ impl MemFiles {
 impl Files for MemFiles {
     ghost read_faults = { λ files _. files.read_faults };
 
-    ghost holds = { λ files name. held files.files.items name };
+    ghost holds = { λ files. Some (held files.files.items) };
 
     /// Fails exactly where the call is to fail or the name isn't there. After `NoMemory` nothing
     /// changed.
     fn read_all(&mut self, name: &str, limit: usize, into: &mut Vec<u8>) -> Result<(), FileAnswer>
         requires { into.old.items ≡ [] }
-        ensures never_falls { self.old.read_faults ≤ self.new.read_faults }
-        ensures kept { (n : List ℕ) → held self.new.files.items n ≡ held self.old.files.items n }
-        ensures answer { ReadAll result (held self.old.files.items name.now) limit into.new.items
-            self.old.read_faults self.new.read_faults }
+        ensures never_falls { (n : List ℕ) → self.old.read_faults ≤ self.new.read_faults }
+        ensures kept { Some (held self.new.files.items) ≡ Some (held self.old.files.items) }
+        ensures answer { ReadAll result (Some (held self.old.files.items)) name.now limit into.new.items
+            (λ _. self.old.read_faults) (λ _. self.new.read_faults) }
         ensures exact { IsReading result
             (reading_of (is_to_fail self.old.fail.items self.old.calls) (held self.old.files.items name.now) limit) }
         ensures bytes { into.new.items ≡ bytes_read result (held self.old.files.items name.now) limit }

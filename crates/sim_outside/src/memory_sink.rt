@@ -1,6 +1,6 @@
 ghost use Rattle.std.specs.Prelude.{◌≡◌, ◌≤◌, ◌-◌, ℕ, List, [], true, false, Some, IfOk, MatchResult, length, vec_capacity};
-ghost use Rattle.sim_outside.specs.Fault.{raised};
-ghost use Rattle.sim_outside.specs.Sink.{Put};
+ghost use Rattle.sim_outside.specs.Fault.{raised, Counts};
+ghost use Rattle.sim_outside.specs.Sink.{Put, is_fault};
 ghost use Rattle.sim_outside.specs.Memory.{is_to_fail, portion, faults_after};
 
 use crate::printing::{Failed, Sink};
@@ -51,8 +51,8 @@ impl Sink for MemSink {
     /// Takes as much as the most of a call and the room that is left allow.
     fn put(&mut self, piece: &[u8]) -> Result<usize, Failed>
         ensures never_falls { self.old.faults ≤ self.new.faults }
-        ensures answer { Put result piece.now (Some self.old.taken.items) (Some self.new.taken.items)
-            self.old.faults self.new.faults }
+        ensures answer { Put result piece.now (Some self.old.taken.items) (Some self.new.taken.items) }
+        ensures counted { Counts (is_fault result piece.now) self.old.faults self.new.faults }
         ensures exact { MatchResult result
             (λ k. (is_to_fail self.old.fail.items self.old.calls ≡ false)
             × (k ≡ portion piece.now self.old.most (self.old.room - length self.old.taken.items)))

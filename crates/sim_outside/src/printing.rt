@@ -1,5 +1,6 @@
 ghost use Rattle.std.specs.Prelude.{◌≤◌, ℕ, List, Option};
-ghost use Rattle.sim_outside.specs.Sink.{Put};
+ghost use Rattle.sim_outside.specs.Fault.{Counts};
+ghost use Rattle.sim_outside.specs.Sink.{Put, is_fault};
 
 /// A stream failed.
 #[derive(Clone, Copy, Debug, PartialEq, Eq)]
@@ -15,9 +16,10 @@ pub trait Sink {
 
     /// Takes the first bytes of `piece` and answers how many.
     ///
-    /// It takes none of a piece that isn't empty only with one more fault. `Failed` too comes only
-    /// with one more fault, and then nothing was taken.
+    /// A fault is that it takes none of a piece that isn't empty, or `Failed`; then nothing was taken.
+    /// The count of faults rises with a fault, and else is as it was.
     fn put(&mut self, piece: &[u8]) -> Result<usize, Failed>
         ensures never_falls { faults self.old ≤ faults self.new }
-        ensures answer { Put result piece.now (taken self.old) (taken self.new) (faults self.old) (faults self.new) };
+        ensures answer { Put result piece.now (taken self.old) (taken self.new) }
+        ensures counted { Counts (is_fault result piece.now) (faults self.old) (faults self.new) };
 }

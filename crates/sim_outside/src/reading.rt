@@ -1,5 +1,6 @@
-ghost use Rattle.std.specs.Prelude.{◌≡◌, ◌≤◌, ℕ, List, [], Option};
+ghost use Rattle.std.specs.Prelude.{◌≡◌, ◌≤◌, ℕ, List, []};
 ghost use Rattle.sim_outside.specs.Files.{ReadAll};
+ghost use Rattle.sim_outside.specs.Told.{Contents};
 
 use std::alloc::AllocError;
 
@@ -29,18 +30,19 @@ pub trait Files {
     /// How many faults of reading each name has had. A count stops at 2^64 - 1.
     ghost read_faults: { Self → List ℕ → ℕ };
 
-    /// What each name holds, where this is told. A name that isn't there tells nothing.
-    ghost holds: { Self → List ℕ → Option (List ℕ) };
+    /// What the names hold. It is told of every name or of none.
+    ghost holds: { Self → Contents };
 
     /// Reads the whole file into `into`, which begins empty, if it has at most `limit` bytes.
     ///
-    /// `Failed` comes only with one more fault of that name; `into` then holds bytes of no
-    /// meaning. `TooLong` leaves more than `limit` bytes in `into`, which begin the file.
-    /// `NoMemory` leaves `into` empty.
+    /// `Failed` comes only with one more fault of that name; `into` then holds bytes of no meaning. A
+    /// name that isn't there is such a fault. `TooLong` leaves more than `limit` bytes in `into`, which
+    /// begin the file. `NoMemory` leaves `into` empty. With any answer but `Failed` each name has as
+    /// many faults as before. No name holds anything else afterwards.
     fn read_all(&mut self, name: &str, limit: usize, into: &mut Vec<u8>) -> Result<(), FileAnswer>
         requires { into.old.items ≡ [] }
         ensures never_falls { (n : List ℕ) → read_faults self.old n ≤ read_faults self.new n }
-        ensures kept { (n : List ℕ) → holds self.new n ≡ holds self.old n }
-        ensures answer { ReadAll result (holds self.old name.now) limit into.new.items
-            (read_faults self.old name.now) (read_faults self.new name.now) };
+        ensures kept { holds self.new ≡ holds self.old }
+        ensures answer { ReadAll result (holds self.old) name.now limit into.new.items
+            (read_faults self.old) (read_faults self.new) };
 }

@@ -39,7 +39,7 @@ fn read_start<R: rt::Files>(
 impl<R: rt::Files> Files for OsFiles<R> {
     ghost read_faults = { λ files _. files.read_faults };
 
-    ghost holds = { λ _ _. None };
+    ghost holds = { λ _. None };
 
     fn read_all(&mut self, name: &str, limit: usize, into: &mut Vec<u8>) -> Result<(), FileAnswer> {
         match read_start(&self.system, name, limit, into) {

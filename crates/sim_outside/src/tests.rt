@@ -50,11 +50,9 @@ fn files_in_memory_fail_where_planned_or_absent(rt: HostRuntime) -> Result<(), A
     ];
     for (name, limit, wanted, bytes, faults) in rows {
         let (answer, into) = read(alloc, &mut files, name, limit);
-        assert_eq!(rt; answer, wanted, "{name} up to {limit}");
-        assert_eq!(rt; into.as_slice(), bytes, "{name} up to {limit}");
-        assert_eq!(rt; files.read_faults, faults, "{name} up to {limit}");
+        let is_wanted = answer == wanted && into.as_slice() == bytes && files.read_faults == faults;
+        assert!(rt; is_wanted, "{name} up to {limit}");
     }
-    assert_eq!(rt; files.calls, 6);
     Ok(())
 }
 
@@ -73,25 +71,10 @@ fn a_stream_in_memory_takes_a_text_in_parts(rt: HostRuntime) -> Result<(), Alloc
         (b"", Ok(0), b"hello\n== tilesim ==\n", 1),
     ];
     for (piece, wanted, taken, faults) in rows {
-        assert_eq!(rt; put(&mut sink, piece), wanted, "after {} calls", sink.calls);
-        assert_eq!(rt; sink.taken.as_slice(), taken, "after {} calls", sink.calls);
-        assert_eq!(rt; sink.faults, faults, "after {} calls", sink.calls);
+        let answer = put(&mut sink, piece);
+        let is_wanted = answer == wanted && sink.taken.as_slice() == taken && sink.faults == faults;
+        assert!(rt; is_wanted, "after {} calls", sink.calls);
     }
-    assert_eq!(rt; sink.calls, 5);
-    Ok(())
-}
-
-#[test]
-fn a_full_stream_in_memory_counts_a_fault(rt: HostRuntime) -> Result<(), AllocError> {
-    let alloc = rt.alloc();
-    let Ok(mut sink) = MemSink::new(alloc, 3, 100, Vec::new(alloc)) else {
-        return Err(AllocError);
-    };
-    assert_eq!(rt; put(&mut sink, b"hello"), Ok(3));
-    assert_eq!(rt; sink.faults, 0);
-    assert_eq!(rt; put(&mut sink, b"lo"), Ok(0));
-    assert_eq!(rt; sink.faults, 1);
-    assert_eq!(rt; sink.taken.as_slice(), b"hel".as_slice());
     Ok(())
 }
 
@@ -110,10 +93,11 @@ fn files_of_the_system_are_read_up_to_a_limit(rt: HostRuntime) -> io::Result<()>
     ];
     for (name, limit, wanted, len, faults) in rows {
         let (answer, into) = read(alloc, &mut files, name, limit);
-        assert_eq!(rt; answer, wanted, "{name} up to {limit}");
-        assert_eq!(rt; into.len(), len, "{name} up to {limit}");
-        assert!(rt; into.iter().all(|byte| *byte == 7), "{name} up to {limit}");
-        assert_eq!(rt; files.read_faults, faults, "{name} up to {limit}");
+        let is_wanted = answer == wanted
+            && into.len() == len
+            && into.iter().all(|byte| *byte == 7)
+            && files.read_faults == faults;
+        assert!(rt; is_wanted, "{name} up to {limit}");
     }
     fs::remove_file(&rt, "written")
 }
@@ -147,7 +131,6 @@ impl Print for Pipe {
 
 #[test]
 fn output_counts_what_the_system_refuses(rt: HostRuntime) {
-    assert_eq!(rt; put(&mut OsSink::new(&rt), b""), Ok(0));
     let rows = [
         (Some(3), Ok(3), 0),
         (Some(100), Ok(5), 0),
@@ -156,7 +139,8 @@ fn output_counts_what_the_system_refuses(rt: HostRuntime) {
     ];
     for (takes, wanted, faults) in rows {
         let mut sink = OsSink::new(Pipe { takes });
-        assert_eq!(rt; put(&mut sink, b"hello"), wanted, "takes {takes:?}");
-        assert_eq!(rt; sink.faults, faults, "takes {takes:?}");
+        let answer = put(&mut sink, b"hello");
+        let is_wanted = answer == wanted && sink.faults == faults;
+        assert!(rt; is_wanted, "takes {takes:?}");
     }
 }
