@@ -1,0 +1,128 @@
+ghost use Rattle.std.specs.Prelude.{◌≡◌};
+ghost use Rattle.elf_image.specs.Layout.{fetch};
+ghost use Rattle.rv_exec.specs.Effect.{HasRegister, HasAccess};
+ghost use Rattle.rv_hart.specs.Step.{next_step, word_step, meaning_step, access_step, right_of, access_fault, is_granted, IsStep};
+
+use crate::calls::call_step;
+use crate::reservations::{Span, is_conditional, matches};
+use elf_image::{Right, World};
+use rv_decode::decode;
+use rv_exec::{Access, AccessOp, Meaning, Regs, class, effect};
+use sim_base::{Cause, CostClass};
+use wire_msg::Call;
+
+/// What a hart does next.
+#[derive(Drop)]
+pub enum Step {
+    /// Register `rd`, below 32, gets `value`, which changes nothing where `rd` is 0, and the hart goes on at `pc`. It
+    /// costs what the instruction's class costs.
+    Next {
+        class: CostClass,
+        rd: u8,
+        value: u64,
+        pc: u64,
+    },
+    /// It accesses memory. Each byte has the right that the access needs, and a store-conditional has its reservation.
+    Access {
+        access: Access,
+    },
+    /// A store-conditional whose bytes may be written lacks its reservation: it fails, and `rd` gets 1.
+    ScFails {
+        rd: u8,
+    },
+    /// The hart answers a call itself.
+    Answer {
+        value: u64,
+    },
+    /// It passes a call on to whoever serves calls.
+    Ask {
+        call: Call,
+    },
+    /// It begins a write call of `len` bytes, 1 to 4096, from `addr` on, each of which may be read.
+    Write {
+        addr: u64,
+        len: u64,
+    },
+    /// Its thread exits with a code.
+    Exit {
+        code: u8,
+    },
+    /// It traps, and changes nothing.
+    Trap {
+        cause: Cause,
+    },
+}
+
+/// The next step of a hart with these registers, this pc and this reservation, on which thread number `thread` runs.
+/// Traps come in the order of the RISC-V ISA manual: the fetch, an illegal word, the address's alignment, then the
+/// rights of the bytes, which are this simulator's own; a store-conditional's reservation is looked at last.
+pub fn next_step(
+    world: &World,
+    regs: &Regs,
+    pc: u64,
+    reservation: Option<Span>,
+    thread: u32,
+) -> Step
+    ensures step { result ≡ next_step world.now regs.now pc reservation thread }
+    ensures known { IsStep world.now result }
+{
+    let Some(word) = world.fetch(pc) else {
+        return Step::Trap {
+            cause: Cause::InstrAccess,
+        };
+    };
+    let Some(instr) = decode(word) else {
+        return Step::Trap {
+            cause: Cause::Illegal,
+        };
+    };
+    match effect(&instr, regs, pc) {
+        Meaning::Next { rd, value, pc } => Step::Next {
+            class: class(&instr),
+            rd,
+            value,
+            pc,
+        },
+        Meaning::Access { access } => access_step(world, reservation, access),
+        Meaning::Call => call_step(world, regs, thread),
+        Meaning::Trap { cause } => Step::Trap { cause },
+    }
+}
+
+/// An access: its bytes' rights are tested first, then a store-conditional's reservation.
+fn access_step(world: &World, reservation: Option<Span>, access: Access) -> Step
+    ensures step { result ≡ access_step world.now reservation access }
+    ensures known { IsStep world.now result }
+{
+    let op = access.op();
+    if !world.may(access.addr(), u64::from(access.size()), right_of(op)) {
+        Step::Trap {
+            cause: access_fault(op),
+        }
+    } else if is_conditional(op) && !matches(reservation, &access) {
+        Step::ScFails { rd: access.rd() }
+    } else {
+        Step::Access { access }
+    }
+}
+
+/// The right that an access needs of its bytes.
+fn right_of(op: AccessOp) -> Right
+    ensures { result ≡ right_of op }
+{
+    match op {
+        AccessOp::Load | AccessOp::Lr => Right::Read,
+        AccessOp::Store | AccessOp::Sc => Right::Write,
+        AccessOp::Amo { .. } => Right::ReadWrite,
+    }
+}
+
+/// The trap of an access whose bytes lack the right.
+fn access_fault(op: AccessOp) -> Cause
+    ensures { result ≡ access_fault op }
+{
+    match op {
+        AccessOp::Load | AccessOp::Lr => Cause::LoadAccess,
+        AccessOp::Store | AccessOp::Sc | AccessOp::Amo { .. } => Cause::StoreAccess,
+    }
+}
