@@ -1,0 +1,9 @@
+//! Serving: what a thread's call, exit or trap makes of a program's control data, and whom it answers. The flat machine
+//! and the control server both serve by this crate's one definition.
+#![tactic(auto)]
+
+mod answers;
+mod control_data;
+
+pub use answers::{MOST_THREADS, break_after, write_output};
+pub use control_data::{Fate, Join, Joiner, Request, Waiter};
