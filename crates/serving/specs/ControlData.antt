@@ -5,22 +5,19 @@ use Rattle.sim_base.specs.declared.ends.End.{End}
 use Rattle.serving.specs.declared.control_data.Fate.{Fate}
 use Rattle.serving.specs.declared.control_data.Fate.TheVariants.{Live, Exited}
 use Rattle.serving.specs.declared.control_data.Waiter.{Waiter}
-use Rattle.serving.specs.declared.control_data.Joiner.{Joiner}
 
 -- each thread's fate, by its number: threads are numbered from 0 on, and no number is used again; who is parked at
--- which word, in order of parking; who is parked joining which thread, in order of parking; the end of the heap's used
--- part; what was output; and the end, if there is one
+-- which word, in order of parking; the end of the heap's used part; what was output; and the end, if there is one
 pub record ControlData : Type 0 where
   pub fates : List Fate
   pub waiters : List Waiter
-  pub joiners : List Joiner
   pub heap_break : ℕ
   pub output : List ℕ
   pub ended : Option End
 
 -- before the program runs thread 0 is live, and the break is the heap's start
 abbrev pub start_data : ℕ → ControlData
-start_data heap_start = record { fates = Live ∷ []; waiters = []; joiners = []; heap_break = heap_start; output = []; ended = None }
+start_data heap_start = record { fates = Live None ∷ []; waiters = []; heap_break = heap_start; output = []; ended = None }
 
 -- the number that the next thread gets
 abbrev pub next_number : List Fate → ℕ
@@ -28,7 +25,7 @@ next_number fates = length fates
 
 -- a thread is live until its exit is served
 abbrev pub is_live : Fate → Bool
-is_live Live = true
+is_live (Live joiner) = true
 is_live (Exited code joined) = false
 
 -- how many threads are live
@@ -40,12 +37,18 @@ abbrev pub live_from : ℕ → List Fate → List ℕ
 live_from number [] = []
 live_from number (fate ∷ fates) = if is_live fate then number ∷ live_from (number + 1) fates else live_from (number + 1) fates
 
--- whether a thread is parked at a word; whether it is parked joining another; whether it is parked
+-- whether a thread is parked at a word
 abbrev pub is_waiting : List Waiter → ℕ → Bool
 is_waiting waiters thread = list_any (λ w. w.thread == thread) waiters
 
-abbrev pub is_joining : List Joiner → ℕ → Bool
-is_joining joiners thread = list_any (λ j. j.thread == thread) joiners
+-- whether a thread is the one that is parked joining another; whether it is parked joining any
+abbrev pub is_joiner : ℕ → Fate → Bool
+is_joiner thread (Live (Some joiner)) = joiner == thread
+is_joiner thread _ = false
 
+abbrev pub is_joining : List Fate → ℕ → Bool
+is_joining fates thread = list_any (is_joiner thread) fates
+
+-- whether a thread is parked
 abbrev pub is_parked : ControlData → ℕ → Bool
-is_parked c thread = is_waiting c.waiters thread || is_joining c.joiners thread
+is_parked c thread = is_waiting c.waiters thread || is_joining c.fates thread

@@ -1,52 +1,36 @@
 -- What a join comes to. This simulator's own, after POSIX's pthread_join: a thread is joined once.
-use Rattle.std.specs.Prelude.{ℕ, ◌==◌, ◌||◌, not, Bool, true, false, List, [], ◌∷◌, ◌++◌, find, filter, slice_get, slice_set, if◌then◌else◌, Option, Some, None, is_some}
-use Rattle.std.specs.List.{list_any}
-use Rattle.std.specs.Option.{option_map}
+use Rattle.std.specs.Prelude.{ℕ, ◌==◌, true, false, List, slice_get, slice_set, if◌then◌else◌, Option, Some, None, is_some, option_and_then}
 use Rattle.serving.specs.declared.control_data.Fate.{Fate}
 use Rattle.serving.specs.declared.control_data.Fate.TheVariants.{Live, Exited}
-use Rattle.serving.specs.declared.control_data.Joiner.{Joiner}
 use Rattle.serving.specs.declared.control_data.Join.{Join}
 use Rattle.serving.specs.declared.control_data.Join.TheVariants.{Code, Parked, NoThread, Invalid}
 
--- whether somebody is parked joining a thread; those who aren't
-abbrev pub joins : ℕ → Joiner → Bool
-joins target j = j.target == target
+-- what a join comes to, by the target's fate. No thread: the target never began or was joined already. Invalid: it is
+-- the caller, or somebody is parked joining it. The code, where it exited. Else the caller is parked
+abbrev pub join_by : ℕ → ℕ → Option Fate → Join
+join_by caller target None = NoThread
+join_by caller target (Some (Exited code true)) = NoThread
+join_by caller target (Some (Exited code false)) = if target == caller then Invalid else Code code
+join_by caller target (Some (Live (Some joiner))) = Invalid
+join_by caller target (Some (Live None)) = if target == caller then Invalid else Parked
 
-abbrev pub is_joined_by_some : List Joiner → ℕ → Bool
-is_joined_by_some joiners target = list_any (joins target) joiners
+abbrev pub join_of : List Fate → ℕ → ℕ → Join
+join_of fates caller target = join_by caller target (slice_get fates target)
 
-abbrev pub others : ℕ → List Joiner → List Joiner
-others target joiners = filter (λ j. not (joins target j)) joiners
+-- the fates after a join: a target that exited counts as joined, and a live one has a joiner
+abbrev pub fates_joined : List Fate → ℕ → ℕ → Join → List Fate
+fates_joined fates caller target (Code code) = slice_set fates target (Exited code true)
+fates_joined fates caller target Parked = slice_set fates target (Live (Some caller))
+fates_joined fates caller target _ = fates
 
--- the thread that is parked joining a thread, if one is: the first, where several were
-abbrev pub joiner_of : List Joiner → ℕ → Option ℕ
-joiner_of joiners target = option_map (λ j. j.thread) (find (joins target) joiners)
+-- the thread that is parked joining a thread, if one is
+abbrev pub joiner_by : Fate → Option ℕ
+joiner_by (Live joiner) = joiner
+joiner_by (Exited code joined) = None
 
--- a caller can't join itself, nor a thread that somebody is parked joining
-abbrev pub is_taken : List Joiner → ℕ → ℕ → Bool
-is_taken joiners caller target = target == caller || is_joined_by_some joiners target
-
--- what a join comes to, by the target's fate: no thread where the target never began or was joined already; invalid
--- where the caller can't join it; the code where the target exited; else the caller is parked
-abbrev pub join_by : List Joiner → ℕ → ℕ → Option Fate → Join
-join_by joiners caller target None = NoThread
-join_by joiners caller target (Some (Exited code true)) = NoThread
-join_by joiners caller target (Some (Exited code false)) = if is_taken joiners caller target then Invalid else Code code
-join_by joiners caller target (Some Live) = if is_taken joiners caller target then Invalid else Parked
-
-abbrev pub join_of : List Fate → List Joiner → ℕ → ℕ → Join
-join_of fates joiners caller target = join_by joiners caller target (slice_get fates target)
-
--- the fates after a join: a thread that exited counts as joined
-abbrev pub fates_joined : List Fate → ℕ → Join → List Fate
-fates_joined fates target (Code code) = slice_set fates target (Exited code true)
-fates_joined fates target _ = fates
-
--- the joiners after a join: a caller that is parked comes last
-abbrev pub joiners_joined : List Joiner → ℕ → ℕ → Join → List Joiner
-joiners_joined joiners caller target Parked = joiners ++ (record { thread = caller; target = target }) ∷ []
-joiners_joined joiners caller target _ = joiners
+abbrev pub joiner_of : List Fate → ℕ → Option ℕ
+joiner_of fates thread = option_and_then joiner_by (slice_get fates thread)
 
 -- the fates after a thread's exit with a code: it counts as joined where somebody was parked joining it
-abbrev pub fates_exited : List Fate → List Joiner → ℕ → ℕ → List Fate
-fates_exited fates joiners thread code = slice_set fates thread (Exited code (is_some (joiner_of joiners thread)))
+abbrev pub fates_exited : List Fate → ℕ → ℕ → List Fate
+fates_exited fates thread code = slice_set fates thread (Exited code (is_some (joiner_of fates thread)))

@@ -15,7 +15,7 @@ use Rattle.serving.specs.declared.control_data.Join.TheVariants.{Code, Parked, N
 use Rattle.serving.specs.declared.control_data.Request.{Request}
 use Rattle.serving.specs.declared.control_data.Request.TheVariants.{Call as CallRequest, Exit, Trap}
 use Rattle.serving.specs.ControlData.{ControlData, next_number, live_count, live_from, is_parked}
-use Rattle.serving.specs.Join.{join_of, fates_joined, joiners_joined, fates_exited, joiner_of, others}
+use Rattle.serving.specs.Join.{join_of, fates_joined, fates_exited, joiner_of}
 use Rattle.serving.specs.Wake.{woken, still_parked}
 
 -- a thread that was parked, and the answer that wakes it
@@ -62,7 +62,7 @@ is_full w fates = nat_le w.config.tiles (live_count fates) || nat_le (2 ^ 32 - 1
 
 abbrev pub born : ControlData → ℕ → ℕ → Served
 born c entry arg = record {
-  control = record c { fates = c.fates ++ Live ∷ [] };
+  control = record c { fates = c.fates ++ Live None ∷ [] };
   woken = [];
   born = Some (record { thread = next_number c.fates; entry = entry; arg = arg });
   own = answer (next_number c.fates);
@@ -73,9 +73,6 @@ spawn_served w c entry arg =
     if not (entry % 4 == 0) then answered c (minus 22) else (if is_full w c.fates then answered c (minus 11) else born c entry arg)
 
 -- join: by what it comes to
-abbrev pub join_data : ControlData → ℕ → ℕ → Join → ControlData
-join_data c caller target join = record c { fates = fates_joined c.fates target join; joiners = joiners_joined c.joiners caller target join }
-
 abbrev pub join_own : Join → Own
 join_own (Code code) = answer code
 join_own Parked = park
@@ -83,10 +80,15 @@ join_own NoThread = answer (minus 3)
 join_own Invalid = answer (minus 22)
 
 abbrev pub joined : ControlData → ℕ → ℕ → Join → Served
-joined c caller target join = record { control = join_data c caller target join; woken = []; born = None; own = join_own join }
+joined c caller target join = record {
+  control = record c { fates = fates_joined c.fates caller target join };
+  woken = [];
+  born = None;
+  own = join_own join;
+}
 
 abbrev pub join_served : ControlData → ℕ → ℕ → Served
-join_served c caller target = joined c caller target (join_of c.fates c.joiners caller target)
+join_served c caller target = joined c caller target (join_of c.fates caller target)
 
 -- write: the bytes are output, unless the output would pass 1,048,576 bytes
 abbrev pub most_output : ℕ
@@ -151,12 +153,8 @@ end_of_exit fates code = if live_count fates == 0 then Some (ExitEnd code) else 
 -- an exit
 abbrev pub exit_served : ControlData → ℕ → ℕ → Served
 exit_served c caller code = record {
-  control = record c {
-    fates = fates_exited c.fates c.joiners caller code;
-    joiners = others caller c.joiners;
-    ended = end_of_exit (fates_exited c.fates c.joiners caller code) code;
-  };
-  woken = joiner_woken (joiner_of c.joiners caller) code;
+  control = record c { fates = fates_exited c.fates caller code; ended = end_of_exit (fates_exited c.fates caller code) code };
+  woken = joiner_woken (joiner_of c.fates caller) code;
   born = None;
   own = leave;
 }

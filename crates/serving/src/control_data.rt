@@ -4,8 +4,8 @@ use wire_msg::Call;
 /// What has become of a thread that began.
 #[derive(Clone, Copy, Debug, PartialEq, Eq)]
 pub enum Fate {
-    /// Its exit wasn't served yet.
-    Live,
+    /// Its exit wasn't served yet. `joiner` is the thread that is parked joining it, if one is.
+    Live { joiner: Option<u32> },
     /// It exited with a code; whether a thread has joined it.
     Exited { code: u8, joined: bool },
 }
@@ -17,15 +17,6 @@ pub struct Waiter {
     pub thread: u32,
     /// The address of the word.
     pub addr: u64,
-}
-
-/// A thread that is parked until another one exits.
-#[derive(Clone, Copy, Debug, PartialEq, Eq)]
-pub struct Joiner {
-    /// The thread.
-    pub thread: u32,
-    /// The thread that is to exit.
-    pub target: u32,
 }
 
 /// What a join comes to.

@@ -6,4 +6,4 @@ mod answers;
 mod control_data;
 
 pub use answers::{MOST_THREADS, break_after, write_output};
-pub use control_data::{Fate, Join, Joiner, Request, Waiter};
+pub use control_data::{Fate, Join, Request, Waiter};
