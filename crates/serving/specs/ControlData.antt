@@ -1,5 +1,5 @@
 -- The control data of a program: what its threads' calls, exits and traps are served by. This simulator's own.
-use Rattle.std.specs.Prelude.{ℕ, ◌+◌, ◌==◌, ◌||◌, Bool, true, false, List, [], ◌∷◌, length, count_by, if◌then◌else◌, Option, None}
+use Rattle.std.specs.Prelude.{ℕ, ◌+◌, ◌==◌, ◌||◌, Bool, true, false, List, [], ◌∷◌, length, count_by, if◌then◌else◌, Option, Some, None}
 use Rattle.std.specs.List.{list_any}
 use Rattle.sim_base.specs.declared.ends.End.{End}
 use Rattle.serving.specs.declared.control_data.Fate.{Fate}
