@@ -5,6 +5,7 @@ use Rattle.std.specs.Prelude.{ℕ, ◌-◌, ◌*◌, ◌/◌, ◌%◌, ◌^◌, 
 use Rattle.rv_exec.specs.Registers.{register}
 use Rattle.elf_image.specs.Layout.{Setup, may}
 use Rattle.elf_image.specs.declared.address_map.Right.TheVariants.{Read}
+use Rattle.wire_msg.specs.ErrorNumber.{minus}
 use Rattle.wire_msg.specs.declared.calls.Call.TheVariants.{Spawn, Join, FutexWait, FutexWake, Brk, ExitGroup}
 use Rattle.rv_hart.specs.declared.steps.Step.{Step}
 use Rattle.rv_hart.specs.declared.steps.Step.TheVariants.{Answer, Ask, Write, Exit}
@@ -24,10 +25,6 @@ a3 regs = register regs 13
 
 abbrev pub a7 : List ℕ → ℕ
 a7 regs = register regs 17
-
--- the answer that stands for an error, as Linux has it: the two's complement of its number
-abbrev pub minus : ℕ → ℕ
-minus error = 2 ^ 64 - error
 
 -- a write moves at most 4096 bytes
 abbrev pub write_length : List ℕ → ℕ

@@ -6,6 +6,7 @@ use crate::steps::Step;
 use elf_image::{Right, World};
 use rv_exec::Regs;
 use wire_msg::Call;
+use wire_msg::error_numbers::{BAD_ADDRESS, BAD_DESCRIPTOR, INVALID, NO_SUCH_CALL};
 
 /// The most bytes that one write call moves.
 const MOST_WRITTEN: u64 = 4096;
@@ -19,15 +20,6 @@ const A2: u8 = 12;
 const A3: u8 = 13;
 
 const A7: u8 = 17;
-
-/// Linux's numbers of the errors that calls answer, negated.
-const BAD_DESCRIPTOR: u64 = u64::MAX - 8;
-
-const BAD_ADDRESS: u64 = u64::MAX - 13;
-
-const INVALID: u64 = u64::MAX - 21;
-
-const NO_SUCH_CALL: u64 = u64::MAX - 37;
 
 /// What the call that `a7` names asks for, by the thread with this number.
 pub(crate) fn call_step(world: &World, regs: &Regs, thread: u32) -> Step

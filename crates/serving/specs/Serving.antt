@@ -6,6 +6,7 @@ use Rattle.std.specs.List.{list_all}
 use Rattle.sim_base.specs.declared.ends.End.{End}
 use Rattle.sim_base.specs.declared.ends.End.TheVariants.{Exit as ExitEnd, Trap as TrapEnd, Deadlock}
 use Rattle.elf_image.specs.Layout.{Setup, heap_start, heap_end}
+use Rattle.wire_msg.specs.ErrorNumber.{minus}
 use Rattle.wire_msg.specs.declared.calls.Call.{Call}
 use Rattle.wire_msg.specs.declared.calls.Call.TheVariants.{Spawn, Join as JoinCall, Write, FutexWait, FutexWake, Brk, ExitGroup}
 use Rattle.serving.specs.declared.control_data.Fate.{Fate}
@@ -41,10 +42,6 @@ pub record Served : Type 0 where
   pub woken : List Woken
   pub born : Option Born
   pub own : Own
-
--- the answer that stands for an error, as Linux has it: the two's complement of its number
-abbrev pub minus : ℕ → ℕ
-minus error = 2 ^ 64 - error
 
 -- the caller alone is answered; parked; or gone
 abbrev pub answered : ControlData → ℕ → Served

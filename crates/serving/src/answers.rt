@@ -3,15 +3,13 @@ ghost use Rattle.serving.specs.Serving.{write_answer, output_with, break_after};
 
 use elf_image::World;
 use sim_base::{Bytes, NoMemory};
+use wire_msg::error_numbers::NO_SPACE;
 
 /// How many threads a program may begin, in all: one number less than 32 bits have.
 pub const MOST_THREADS: u32 = u32::MAX;
 
 /// The most that a program may output, in bytes.
 const MOST_OUTPUT: usize = 1_048_576;
-
-/// Linux's "no space left", negated: the answer of a write that would pass that.
-const NO_SPACE: u64 = u64::MAX - 27;
 
 /// The output takes the bytes of a write, unless it would pass 1,048,576 bytes. The answer is their number, or Linux's
 /// "no space left". Where memory runs out, nothing changes.

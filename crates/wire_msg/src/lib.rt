@@ -4,6 +4,7 @@
 
 mod calls;
 mod envelopes;
+pub mod error_numbers;
 mod messages;
 mod routes;
 
