@@ -54,10 +54,13 @@ meaning_step w regs reservation thread class (AccessMeaning access) = access_ste
 meaning_step w regs reservation thread class CallMeaning = call_step w regs thread
 meaning_step w regs reservation thread class (TrapMeaning cause) = Trap cause
 
+abbrev pub instruction_step : Setup → List ℕ → ℕ → Option Span → ℕ → Instr → Step
+instruction_step w regs pc reservation thread instr = meaning_step w regs reservation thread (class_of instr) (effect_of instr regs pc)
+
 -- a word with no row is an illegal instruction
 abbrev pub row_step : Setup → List ℕ → ℕ → Option Span → ℕ → Option Instr → Step
 row_step w regs pc reservation thread None = Trap Illegal
-row_step w regs pc reservation thread (Some instr) = meaning_step w regs reservation thread (class_of instr) (effect_of instr regs pc)
+row_step w regs pc reservation thread (Some instr) = instruction_step w regs pc reservation thread instr
 
 -- an address from which no word can be fetched is a fault of access
 abbrev pub word_step : Setup → List ℕ → ℕ → Option Span → ℕ → Option ℕ → Step

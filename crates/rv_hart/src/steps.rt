@@ -1,12 +1,11 @@
 ghost use Rattle.std.specs.Prelude.{◌≡◌};
-ghost use Rattle.elf_image.specs.Layout.{fetch};
-ghost use Rattle.rv_exec.specs.Effect.{HasRegister, HasAccess};
-ghost use Rattle.rv_hart.specs.Step.{next_step, word_step, meaning_step, access_step, right_of, access_fault, is_granted, IsStep};
+ghost use Rattle.rv_decode.specs.Valid.{IsValid};
+ghost use Rattle.rv_hart.specs.Step.{next_step, instruction_step, access_step, right_of, access_fault, is_granted, IsStep};
 
 use crate::calls::call_step;
 use crate::reservations::{Span, is_conditional, matches};
 use elf_image::{Right, World};
-use rv_decode::decode;
+use rv_decode::{Instr, decode};
 use rv_exec::{Access, AccessOp, Meaning, Regs, class, effect};
 use sim_base::{Cause, CostClass};
 use wire_msg::Call;
@@ -66,19 +65,38 @@ pub fn next_step(
     ensures step { result ≡ next_step world.now regs.now pc reservation thread }
     ensures known { IsStep world.now result }
 {
+    if let Some(instr) = world.instruction(pc) {
+        return instruction_step(world, instr, regs, pc, reservation, thread);
+    }
     let Some(word) = world.fetch(pc) else {
         return Step::Trap {
             cause: Cause::InstrAccess,
         };
     };
-    let Some(instr) = decode(word) else {
-        return Step::Trap {
+    match decode(word) {
+        Some(instr) => instruction_step(world, &instr, regs, pc, reservation, thread),
+        None => Step::Trap {
             cause: Cause::Illegal,
-        };
-    };
-    match effect(&instr, regs, pc) {
+        },
+    }
+}
+
+/// What an instruction at `pc` does.
+fn instruction_step(
+    world: &World,
+    instr: &Instr,
+    regs: &Regs,
+    pc: u64,
+    reservation: Option<Span>,
+    thread: u32,
+) -> Step
+    requires { IsValid instr.now }
+    ensures step { result ≡ instruction_step world.now regs.now pc reservation thread instr.now }
+    ensures known { IsStep world.now result }
+{
+    match effect(instr, regs, pc) {
         Meaning::Next { rd, value, pc } => Step::Next {
-            class: class(&instr),
+            class: class(instr),
             rd,
             value,
             pc,
