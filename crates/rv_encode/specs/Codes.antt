@@ -1,3 +1,4 @@
+-- For the private functions alone: the clauses of `encode` and `decodes_once` cite nothing of this file.
 -- The codes by which the RISC-V ISA manual's listing of RV64IMA tells the instructions of one form apart. In each
 -- table the last row is for names of other forms, which don't stand in a valid instruction of this form.
 use Rattle.std.specs.Prelude.{ℕ, ◌<◌, ◌^◌}

@@ -1,3 +1,4 @@
+-- For the private functions alone: the clauses of `encode` and `decodes_once` cite nothing of this file.
 -- Which word an instruction is written as: the codes and the operands in its fields are the instruction's. From the
 -- formats and the listing of RV64IMA in the RISC-V ISA manual.
 use Rattle.std.specs.Prelude.{ℕ, ◌≡◌, ◌*◌, if◌then◌else◌}

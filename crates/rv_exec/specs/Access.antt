@@ -1,6 +1,6 @@
 -- The accesses to memory that loads, stores and atomics ask for, and what they give. From the RISC-V ISA
 -- manual, "Load and Store Instructions" of RV32I and RV64I, and the extension A.
-use Rattle.std.specs.Prelude.{ℕ, ◌+◌, min, max, int_lt, bit_and, bit_or, bit_xor, ◌*◌, ◌%◌, ◌^◌, ◌<◌, ◌≡◌, ◌==◌, ◌||◌, Bool, true, false, IsTrue, if◌then◌else◌, Some, None}
+use Rattle.std.specs.Prelude.{ℕ, ◌+◌, min, max, int_lt, bit_and, bit_or, bit_xor, ◌*◌, ◌%◌, ◌^◌, ◌<◌, ◌≤◌, ◌≡◌, ◌==◌, ◌||◌, Bool, true, false, IsTrue, if◌then◌else◌, Some, None}
 use Rattle.rv_decode.specs.declared.instr.Op.{Op}
 use Rattle.rv_decode.specs.declared.instr.Op.TheVariants.{Lb, Lh, Lw, Ld, Lbu, Lhu, Lwu, Sb, Sh, Sw, Sd, AmoAdd, AmoSwap, Lr as LrOp, Sc as ScOp, AmoXor, AmoOr, AmoAnd, AmoMin, AmoMax, AmoMinu, AmoMaxu}
 use Rattle.rv_decode.specs.Field.{extended}
@@ -22,7 +22,7 @@ pub record Asked : Type 0 where
   pub signed : Bool
   pub value : ℕ
 
--- how many bytes a load or a store moves. Here and below the last row is for names of other forms
+-- how many bytes a load or a store moves. The last row is for names of other forms
 abbrev pub size_of : Op → ℕ
 size_of Lb = 1
 size_of Lh = 2
@@ -37,7 +37,7 @@ size_of Sw = 4
 size_of Sd = 8
 size_of _ = 0
 
--- whether a load reads a signed number
+-- whether a load reads a signed number. The last row is for names of other forms
 abbrev pub is_signed : Op → Bool
 is_signed Lb = true
 is_signed Lh = true
@@ -48,10 +48,11 @@ is_signed Lhu = false
 is_signed Lwu = false
 is_signed _ = false
 
--- what a load to rd asks for, and what a store of a value asks for, which writes no register
+-- what a load to rd asks for
 abbrev pub load_of : Op → ℕ → ℕ → Asked
 load_of op rd addr = record { op = Load; rd = rd; addr = addr; size = size_of op; signed = is_signed op; value = 0 }
 
+-- what a store of a value asks for: it writes no register
 abbrev pub store_of : Op → ℕ → ℕ → Asked
 store_of op addr value = record { op = Store; rd = 0; addr = addr; size = size_of op; signed = false; value = value }
 
@@ -74,25 +75,26 @@ atomic_op _ = Load
 abbrev pub atomic_of : Op → Bool → ℕ → ℕ → ℕ → Asked
 atomic_of op wide rd addr value = record { op = atomic_op op; rd = rd; addr = addr; size = if wide then 8 else 4; signed = true; value = value }
 
--- the sizes that an access may have, and those of atomics
+-- the sizes that an access may have
 abbrev pub is_size : ℕ → Bool
 is_size size = size == 1 || size == 2 || size == 4 || size == 8
 
+-- the sizes that an atomic may have
 abbrev pub is_atomic_size : ℕ → Bool
 is_atomic_size size = size == 4 || size == 8
 
--- a size that an access of this kind may have
-abbrev pub is_size_for : AccessOp → ℕ → Bool
-is_size_for Load size = is_size size
-is_size_for Store size = is_size size
-is_size_for _ size = is_atomic_size size
+-- the least size of an access of this kind: an atomic has 4 bytes or 8
+abbrev pub least_size : AccessOp → ℕ
+least_size Load = 1
+least_size Store = 1
+least_size _ = 4
 
--- what is known of every access: its register's number, its size, that its address is a multiple of it, and
--- that address and value have 64 bits
+-- what is known of every access: its register's number, its size, that it isn't below its kind's least, that its
+-- address is a multiple of it, and that address and value have 64 bits
 pub record IsAccess (access : Asked) : Type 0 where
   pub register : access.rd < 32
   pub sized : IsTrue (is_size access.size)
-  pub sized_for : IsTrue (is_size_for access.op access.size)
+  pub least : least_size access.op ≤ access.size
   pub aligned : access.addr % access.size ≡ 0
   pub low_addr : access.addr < 2 ^ 64
   pub low_value : access.value < 2 ^ 64
@@ -121,8 +123,8 @@ width_of size = if size == 4 then w32 else w64
 abbrev pub as_read : Asked → ℕ → ℕ
 as_read access old = if access.signed then extended (8 * access.size) old else old
 
--- what an access gives where its bytes held the number `old`. A load and a load-reserved give it and write
--- nothing. A store gives nothing to a register and writes the low bytes of its value; so does a
+-- what an access of this kind gives where its bytes held the number `old`. A load and a load-reserved give it and
+-- write nothing. A store gives nothing to a register and writes the low bytes of its value; so does a
 -- store-conditional that succeeds, which gives 0. An atomic memory operation gives the old number and writes
 -- the new one.
 abbrev pub finish_by : AccessOp → Asked → ℕ → Done
@@ -135,5 +137,6 @@ finish_by (Amo op) access old = record {
   write = Some (amo_value (width_of access.size) op old (low_bytes access.size access.value));
 }
 
+-- what an access gives where its bytes held the number `old`
 abbrev pub finish_of : Asked → ℕ → Done
 finish_of access old = finish_by access.op access old

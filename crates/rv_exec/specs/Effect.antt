@@ -4,7 +4,7 @@ use Rattle.std.specs.Prelude.{ℕ, ◌%◌, ◌^◌, ◌<◌, Bool, false, not, 
 use Rattle.rv_decode.specs.declared.instr.Instr.{Instr}
 use Rattle.rv_decode.specs.declared.instr.Instr.TheVariants.{Upper, Jal, Jalr, Branch, Load, Store, Imm, Shift, Reg, Atomic, Fence, Ecall, Ebreak}
 use Rattle.rv_decode.specs.declared.instr.Op.{Op}
-use Rattle.rv_decode.specs.declared.instr.Op.TheVariants.{Lui, Auipc, Beq, Bne, Blt, Bge, Bltu, Bgeu, Addi, Slti, Sltiu, Xori, Ori, Andi, Addiw, Slli, Srli, Srai, Slliw, Srliw, Sraiw, Add, Sll, Slt, Sltu, Xor, Srl, Or, And, Sub, Sra, Addw, Sllw, Srlw, Subw, Sraw, Mul, Mulh, Mulhsu, Mulhu, Div, Divu, Rem, Remu, Mulw, Divw, Divuw, Remw, Remuw, Lr}
+use Rattle.rv_decode.specs.declared.instr.Op.TheVariants.{Lui, Auipc, Beq, Bne, Blt, Bge, Bltu, Bgeu, Addi, Slti, Sltiu, Xori, Ori, Andi, Addiw, Slli, Srli, Srai, Slliw, Srliw, Sraiw, Add, Sll, Slt, Sltu, Xor, Srl, Or, And, Sub, Sra, Mul, Mulh, Mulhsu, Mulhu, Div, Divu, Rem, Remu, Addw, Sllw, Srlw, Subw, Sraw, Mulw, Divw, Divuw, Remw, Remuw, Lr}
 use Rattle.sim_base.specs.declared.ends.Cause.{Cause}
 use Rattle.sim_base.specs.declared.ends.Cause.TheVariants.{InstrMisaligned, LoadMisaligned, StoreMisaligned, Breakpoint}
 use Rattle.rv_exec.specs.declared.meaning.Meaning.{Meaning}
@@ -55,20 +55,15 @@ shift_value _ a amount = 0
 -- what an instruction on rs1 and rs2 writes to rd: a shift's amount is the low 6 bits of rs2, 5 in a W form
 abbrev pub register_value : Op → ℕ → ℕ → ℕ
 register_value Add a b = wrapping_sum a b
-register_value Sub a b = wrapping_difference a b
 register_value Sll a b = left_shift a (b % 2 ^ 6)
-register_value Srl a b = logical_shift a (b % 2 ^ 6)
-register_value Sra a b = arithmetic_shift a (b % 2 ^ 6)
 register_value Slt a b = truth (signed_lt a b)
 register_value Sltu a b = truth (nat_lt a b)
 register_value Xor a b = bit_xor a b
+register_value Srl a b = logical_shift a (b % 2 ^ 6)
 register_value Or a b = bit_or a b
 register_value And a b = bit_and a b
-register_value Addw a b = word_sum a b
-register_value Subw a b = word_difference a b
-register_value Sllw a b = word_left_shift a (b % 2 ^ 5)
-register_value Srlw a b = word_logical_shift a (b % 2 ^ 5)
-register_value Sraw a b = word_arithmetic_shift a (b % 2 ^ 5)
+register_value Sub a b = wrapping_difference a b
+register_value Sra a b = arithmetic_shift a (b % 2 ^ 6)
 register_value Mul a b = wrapping_product a b
 register_value Mulh a b = signed_high_product a b
 register_value Mulhsu a b = mixed_high_product a b
@@ -77,6 +72,11 @@ register_value Div a b = signed_quotient w64 a b
 register_value Divu a b = unsigned_quotient w64 a b
 register_value Rem a b = signed_remainder w64 a b
 register_value Remu a b = unsigned_remainder a b
+register_value Addw a b = word_sum a b
+register_value Sllw a b = word_left_shift a (b % 2 ^ 5)
+register_value Srlw a b = word_logical_shift a (b % 2 ^ 5)
+register_value Subw a b = word_difference a b
+register_value Sraw a b = word_arithmetic_shift a (b % 2 ^ 5)
 register_value Mulw a b = word_product a b
 register_value Divw a b = on_words (signed_quotient w32) a b
 register_value Divuw a b = on_words (unsigned_quotient w32) a b

@@ -45,7 +45,8 @@ pub enum AccessOp {
     Amo { op: AmoOp },
 }
 
-/// One access to memory that an instruction asks for. Its address is a multiple of its size.
+/// One access to memory that an instruction asks for. Its address is always a multiple of its size: an instruction whose
+/// address isn't traps and makes none.
 #[derive(Clone, Copy, Debug, PartialEq, Eq)]
 pub struct Access {
     /// Whether it reads, writes or both.

@@ -1,5 +1,5 @@
-ghost use Rattle.std.specs.Prelude.{◌≡◌, ◌<◌};
-ghost use Rattle.rv_exec.specs.Registers.{register, with_register, zeros};
+ghost use Rattle.std.specs.Prelude.{◌≡◌, ◌<◌, slice_index};
+ghost use Rattle.rv_exec.specs.Registers.{register, with_register, zeros, AreRegisters};
 
 use std::marker::Model;
 
@@ -34,7 +34,8 @@ impl Regs {
     /// What register `i` holds. The caller gives a number below 32.
     pub fn get(&self, i: u8) -> u64
         requires { i < 32 }
-        ensures { result ≡ register self.now i }
+        ensures value { result ≡ register self.now i }
+        ensures known { AreRegisters self.now }
     {
         self.numbers[i as usize]
     }
@@ -42,10 +43,19 @@ impl Regs {
     /// Writes a value to register `i`, which is below 32. A write to register 0 changes nothing.
     pub fn set(&mut self, i: u8, value: u64)
         requires { i < 32 }
-        ensures { self.new ≡ with_register self.old i value }
+        ensures value { self.new ≡ with_register self.old i value }
+        ensures known { AreRegisters self.new }
     {
         if i != 0 {
             self.numbers[i as usize] = value;
         }
+    }
+
+    /// Lends what the registers hold, by their numbers.
+    pub fn numbers(&self) -> &[u64; 32]
+        ensures value { result.now ≡ self.now }
+        ensures zero { slice_index self.now 0 ≡ 0 }
+    {
+        &self.numbers
     }
 }
