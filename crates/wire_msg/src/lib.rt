@@ -1,10 +1,11 @@
 //! What the nodes of the simulated machine send one another: the messages, the calls of threads among them,
-//! and their envelopes. This simulator's own, after Graphite (HPCA 2010).
+//! their envelopes, and which node may send what to which. This simulator's own, after Graphite (HPCA 2010).
 #![tactic(auto)]
 
 mod calls;
 mod envelopes;
 mod messages;
+mod routes;
 
 pub use calls::Call;
 pub use envelopes::{Envelope, Out};
