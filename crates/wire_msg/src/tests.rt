@@ -1,145 +1,134 @@
+ghost use Rattle.sim_base.specs.Settings.{IsChecked};
+
 use crate::{Bytes, Call, LineData, Msg};
-use sim_base::Cause;
+use sim_base::{Cause, Config, NodeId};
+use std::alloc::Global;
 use std::test::Fail;
 
-#[test]
-fn the_copy_of_a_write_has_its_bytes(rt: HostRuntime) -> Result<(), Fail> {
-    let mut bytes = Bytes::new(rt.alloc(), 3)?;
-    bytes.extend(b"abc")?;
-    let call = Call::Write { bytes }.copy(rt.alloc())?;
-    let msg = Msg::Call {
-        thread: 7,
-        time: 1200,
-        call,
-    };
-    let copy = msg.copy(rt.alloc())?;
-    let Msg::Call { thread, time, call } = copy else {
-        return Err(Fail::from("another message"));
-    };
-    assert_eq!(rt; (thread, time), (7, 1200));
-    let Call::Write { bytes } = call else {
-        return Err(Fail::from("another call"));
-    };
-    assert_eq!(rt; bytes.as_slice(), b"abc".as_slice());
-    Ok(())
-}
+/// Pairs of nodes, each with its letter, where tiles 0 to 3 go round two hosts. Node 4 is the control server, nodes 5
+/// and 6 are the local servers, and no node has number 7.
+static PAIRS: [(u8, NodeId, NodeId); 13] = [
+    (b'h', 0, 1), // a tile, the home of line 5
+    (b't', 0, 2), // a tile, another
+    (b'H', 4, 1), // the control server, the home
+    (b'T', 4, 2), // the control server, another tile
+    (b'c', 0, 4), // a tile, the control server
+    (b'l', 4, 5), // the control server, a local server
+    (b'd', 5, 2), // a local server, a tile of its host
+    (b'x', 5, 1), // a local server, a tile of the other host
+    (b'u', 2, 5), // a tile, its local server
+    (b'y', 1, 5), // a tile, the other local server
+    (b'C', 5, 4), // a local server, the control server
+    (b'n', 7, 1), // no node, a tile
+    (b'm', 0, 7), // a tile, no node
+];
 
-#[test]
-fn copies_about_lines(rt: HostRuntime) -> Result<(), Fail> {
+/// Each message's pairs.
+static ROUTES: [&str; 19] = [
+    "hH", "hH", "hH", "hH", "hH", "htc", "ht", "htc", "ht", "ht", "c", "HT", "ld", "uC", "c", "c",
+    "HT", "ht", "ht",
+];
+
+/// A message of each kind, those about lines about line 5.
+fn message(alloc: Global, kind: usize) -> Result<Msg, Fail> {
     let line = 5;
     let content = LineData { bytes: [9; 64] };
-    let asked = Msg::GetM { line }.copy(rt.alloc())?;
-    assert!(rt; matches!(asked, Msg::GetM { line: 5 }));
-    let up = Msg::PutM { line, content }.copy(rt.alloc())?;
-    assert!(rt; matches!(up, Msg::PutM { line: 5, content: c } if c == content));
-    let delay = 78;
-    let data = Msg::DataS {
-        line,
-        content,
-        delay,
-    }
-    .copy(rt.alloc())?;
-    assert!(rt; matches!(data, Msg::DataS { line: 5, content: c, delay: 78 } if c == content));
-    Ok(())
-}
-
-#[test]
-fn copies_about_threads(rt: HostRuntime) -> Result<(), Fail> {
     let (thread, time, limit) = (7, 1200, 2000);
-    let (entry, arg) = (65_536, 9);
-    let start = Msg::Start {
-        thread,
-        entry,
-        arg,
-        time,
-        limit,
+    Ok(match kind {
+        0 => Msg::GetS { line },
+        1 => Msg::GetM { line },
+        2 => Msg::PutM { line, content },
+        3 => Msg::InvAck { line },
+        4 => Msg::FetchAck { line, content },
+        5 => Msg::DataS {
+            line,
+            content,
+            delay: 78,
+        },
+        6 => Msg::DataM {
+            line,
+            content,
+            delay: 78,
+        },
+        7 => Msg::Inv { line },
+        8 => Msg::Fetch { line },
+        9 => Msg::FetchInv { line },
+        10 => Msg::Call {
+            thread,
+            time,
+            call: written(alloc)?,
+        },
+        11 => Msg::Return {
+            value: 3,
+            time,
+            limit,
+        },
+        12 => Msg::Start {
+            thread,
+            entry: 65_536,
+            arg: 9,
+            time,
+            limit,
+        },
+        13 => Msg::Exit {
+            thread,
+            code: 41,
+            time,
+        },
+        14 => Msg::Trapped {
+            thread,
+            cause: Cause::Breakpoint,
+            pc: 65_540,
+        },
+        15 => Msg::Reached { thread },
+        16 => Msg::Limit { limit },
+        17 => Msg::Probe,
+        _ => Msg::ProbeReply {
+            running: true,
+            clock: 1200,
+        },
+    })
+}
+
+fn written(alloc: Global) -> Result<Call, Fail> {
+    let mut bytes = Bytes::new(alloc, 3)?;
+    bytes.extend(b"abc")?;
+    Ok(Call::Write { bytes })
+}
+
+/// The letters of the pairs between which a message may go.
+fn letters(alloc: Global, msg: &Msg, config: &Config) -> Result<Vec<u8>, Fail>
+    requires { IsChecked config.now }
+{
+    let mut found = Vec::new(alloc);
+    for &(letter, from, to) in &PAIRS {
+        if msg.may_go(config, from, to) {
+            found.push(letter)?;
+        }
     }
-    .copy(rt.alloc())?;
-    assert!(rt;
-        matches!(
-            start,
-            Msg::Start {
-                thread: 7,
-                entry: 65_536,
-                arg: 9,
-                time: 1200,
-                limit: 2000
-            }
-        )
-    );
-    let back = Msg::Return {
-        value: 3,
-        time,
-        limit,
+    Ok(found)
+}
+
+#[test]
+fn messages_go_between_these(rt: HostRuntime) -> Result<(), Fail> {
+    let config = Config {
+        hosts: 2,
+        ..Config::defaults()
+    };
+    let mut are_wanted = true;
+    for (kind, wanted) in ROUTES.iter().enumerate() {
+        let msg = message(rt.alloc(), kind)?;
+        are_wanted = are_wanted
+            && letters(rt.alloc(), &msg, &config)?.as_slice() == wanted.as_bytes();
     }
-    .copy(rt.alloc())?;
-    assert!(rt;
-        matches!(
-            back,
-            Msg::Return {
-                value: 3,
-                time: 1200,
-                limit: 2000
-            }
-        )
-    );
-    let exit = Msg::Exit {
-        thread,
-        code: 41,
-        time,
-    }
-    .copy(rt.alloc())?;
-    assert!(rt;
-        matches!(
-            exit,
-            Msg::Exit {
-                thread: 7,
-                code: 41,
-                time: 1200
-            }
-        )
-    );
-    let cause = Cause::Breakpoint;
-    let trapped = Msg::Trapped {
-        thread,
-        cause,
-        pc: 65_540,
-    }
-    .copy(rt.alloc())?;
-    assert!(rt;
-        matches!(
-            trapped,
-            Msg::Trapped {
-                thread: 7,
-                cause: Cause::Breakpoint,
-                pc: 65_540
-            }
-        )
-    );
+    assert!(rt; are_wanted);
     Ok(())
 }
 
 #[test]
-fn copies_about_clocks(rt: HostRuntime) -> Result<(), Fail> {
-    let reached = Msg::Reached { thread: 7 }.copy(rt.alloc())?;
-    assert!(rt; matches!(reached, Msg::Reached { thread: 7 }));
-    let limit = Msg::Limit { limit: 2000 }.copy(rt.alloc())?;
-    assert!(rt; matches!(limit, Msg::Limit { limit: 2000 }));
-    let probe = Msg::Probe.copy(rt.alloc())?;
-    assert!(rt; matches!(probe, Msg::Probe));
-    let reply = Msg::ProbeReply {
-        running: true,
-        clock: 1200,
+fn each_message_has_a_copy(rt: HostRuntime) -> Result<(), Fail> {
+    for kind in 0..19 {
+        let _copy = message(rt.alloc(), kind)?.copy(rt.alloc())?;
     }
-    .copy(rt.alloc())?;
-    assert!(rt;
-        matches!(
-            reply,
-            Msg::ProbeReply {
-                running: true,
-                clock: 1200
-            }
-        )
-    );
     Ok(())
 }
