@@ -1,4 +1,3 @@
 pub mod Message
-pub mod Line
 pub use Rattle.sim_base.specs.Numbering
 pub use Rattle.sim_base.specs.Settings
