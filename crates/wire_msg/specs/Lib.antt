@@ -1,5 +1,4 @@
 pub mod ErrorNumber
 pub mod Message
-pub mod Line
 pub use Rattle.sim_base.specs.Numbering
 pub use Rattle.sim_base.specs.Settings
