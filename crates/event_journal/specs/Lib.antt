@@ -1,0 +1,5 @@
+pub mod Event
+pub mod Laws
+pub mod Rules
+pub mod Run
+pub mod State

@@ -1,0 +1,16 @@
+//! What a machine of numbered nodes is, what its events are, and which lists of events are runs of it: over any type of
+//! node and of message. A journal is such a list.
+#![tactic(auto)]
+
+mod events;
+mod laws;
+mod machine;
+
+pub use events::{Event, Journal};
+pub use laws::{
+    counts_events, runs_have_prefixes, runs_join, runs_split, runs_stay_within, states_join,
+};
+pub use machine::Machine;
+
+#[cfg(test)]
+mod tests;

@@ -1,0 +1,3 @@
+pub mod Threads
+pub use Rattle.serving.specs.ControlData
+pub use Rattle.serving.specs.Join
