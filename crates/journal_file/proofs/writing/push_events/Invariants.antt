@@ -1,0 +1,7 @@
+use Rattle.std.proofs.Common.{◌≡◌, ◌++◌, take}
+use Rattle.std.specs.List.{flat_map}
+use Rattle.journal_file.specs.File.{event_bytes}
+use Rattle.journal_file.proofs.writing.push_events.Given as goal
+
+abbrev pub invariant-loop-event : goal.invariant-loop-event
+invariant-loop-event l = l.file.items ≡ l.fn.file.items ++ flat_map event_bytes (take l.event-index l.events)

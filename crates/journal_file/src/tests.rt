@@ -1,0 +1,68 @@
+use crate::{JournalRefusal, read_journal, write_journal};
+use event_journal::{Event, Journal};
+use sim_base::NoMemory;
+use std::alloc::Global;
+
+/// Three steps of node 0, a message of 0 to 2, one of 2 to 1, and a step of 1.
+static EVENTS: [Event; 6] = [
+    Event::Step { node: 0 },
+    Event::Step { node: 0 },
+    Event::Step { node: 0 },
+    Event::Deliver { from: 0, node: 2 },
+    Event::Deliver { from: 2, node: 1 },
+    Event::Step { node: 1 },
+];
+
+/// Their file of 28 bytes, and one byte more.
+static FILE: [u8; 29] = [
+    0x54, 0x49, 0x4c, 0x45, 0x4a, 0x4e, 0x4c, 0x31, 6, 0, 0, 0, 0, 0, 0, 0, 0, 0xff, 0, 0xff, 0,
+    0xff, 2, 0, 1, 2, 1, 0xff, 0,
+];
+
+/// The file that is written of the events.
+fn written(alloc: Global) -> Result<Vec<u8>, NoMemory> {
+    let events = Vec::from_slice(alloc, &EVENTS)?;
+    write_journal(alloc, &Journal { events })
+}
+
+/// Whether the first `len` bytes of the file, with another byte at a place, are read as the events.
+fn reads(alloc: Global, at: usize, byte: u8, len: usize) -> Result<bool, JournalRefusal> {
+    let mut file = FILE;
+    if let Some(place) = file.get_mut(at) {
+        *place = byte;
+    }
+    let part = file.get(..len).unwrap_or(&[]);
+    let journal = read_journal(alloc, part)?;
+    Ok(journal.events.as_slice() == EVENTS.as_slice())
+}
+
+#[test]
+fn six_events_have_their_file(rt: HostRuntime) {
+    let is_written = written(rt.alloc()).is_ok_and(|file| file.as_slice() == &FILE[..28]);
+    assert!(rt; is_written, "the 28 bytes");
+}
+
+#[test]
+fn a_file_is_read_or_refused_at_its_first_wrong_place(rt: HostRuntime) {
+    let rows = [
+        ("the file", 0, 0x54, 28, None),
+        ("its first 27 bytes", 0, 0x54, 27, Some(27)),
+        ("a byte after the last event", 0, 0x54, 29, Some(28)),
+        ("an event after those counted", 8, 5, 28, Some(26)),
+        ("fewer events than are counted", 8, 7, 28, Some(28)),
+        ("a count that passes 64 bits", 15, 0x80, 28, Some(28)),
+        ("nothing", 0, 0x54, 0, Some(0)),
+        ("a part of the eight bytes", 0, 0x54, 7, Some(7)),
+        ("a part of the count", 0, 0x54, 15, Some(15)),
+        ("another version", 7, 0x32, 28, Some(7)),
+        ("another third byte", 2, 0, 5, Some(2)),
+    ];
+    for (name, at, byte, len, refused) in rows {
+        let wanted = match refused {
+            Some(at) => Err(JournalRefusal::Byte { at }),
+            None => Ok(true),
+        };
+        let is_wanted = reads(rt.alloc(), at, byte, len) == wanted;
+        assert!(rt; is_wanted, "{name}");
+    }
+}
