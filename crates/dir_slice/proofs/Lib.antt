@@ -3,6 +3,7 @@ pub mod Sent
 pub mod Nodes
 pub mod Settling
 pub mod Maps
+pub mod Lines
 pub mod Slices
 pub mod Starts
 pub mod Orderly

@@ -8,8 +8,8 @@ use Rattle.std.specs.Ordering.{nat_cmp, eq_by_cmp}
 use Rattle.std.specs.Cmp.{nat_cmp_total, eq_by_cmp_equiv}
 use Rattle.std.specs.Map.{lookup}
 use Rattle.dir_slice.specs.Line.{Home, fresh}
+use Rattle.dir_slice.specs.Inner.{without_home}
 use Rattle.dir_slice.specs.Directory.{zero_line}
-use Rattle.dir_slice.specs.Made.{without_home}
 
 find-lookup : (q : ℕ) (es : List (ℕ × Home)) → map.find nat_cmp q es ≡ lookup (tree.is_at (nat_cmp q)) es
 find-lookup q [] = refl

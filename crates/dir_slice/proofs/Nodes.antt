@@ -4,15 +4,11 @@ use Rattle.std.specs.Prelude.{nat_lt, nat_eq, ◌==◌, if◌then◌else◌, Opt
 use Rattle.std.specs.List.{All}
 use Rattle.std.proofs.lemmas.List.Elements.{All-nil, All-cons, All-head, All-tail, All-filter, All-rest, All-same, All-push}
 use Rattle.sim_base.specs.declared.settings.Config.{Config}
-use Rattle.dir_slice.specs.declared.states.Request.{Request}
-use Rattle.dir_slice.specs.declared.states.State.{State}
-use Rattle.dir_slice.specs.declared.states.State.TheVariants.{Uncached, Shared, Modified, BusyInv, BusyFetch}
-use Rattle.dir_slice.specs.Line.{Home, Row, same, with_node, without, invalidate, serve, acked, acked_by, fetched, fetched_by, put, put_by, awaited, is_busy}
-use Rattle.dir_slice.specs.Directory.{Mail, served, settled, requested, with_data, acknowledged, fetch_answered, given_up}
+use Rattle.dir_slice.specs.Line.{Request, State, Uncached, Shared, Modified, BusyInv, BusyFetch, Home, Row, same, with_node, without, invalidate, request_row, ack_row, acked_by, fetch_row, fetched_by, put_row, put_by, awaited, is_busy}
+use Rattle.dir_slice.specs.declared.states.State.{State as KeptState}
+use Rattle.dir_slice.specs.Inner.{state_of, IsMade, StateIsWithin, IsWithin, NextIsWithin, IsNext}
+use Rattle.dir_slice.specs.Directory.{Mail, taken_up, settled, requested, with_data, acknowledged, fetch_answered, given_up}
 use Rattle.sim_base.specs.declared.lines.LineData.{LineData}
-use Rattle.dir_slice.specs.Made.{IsMade}
-use Rattle.dir_slice.specs.Nodes.{StateIsWithin, IsWithin, NextIsWithin}
-use Rattle.dir_slice.specs.Next.{IsNext}
 use Rattle.dir_slice.specs.declared.rows.Next.{Next}
 use Rattle.dir_slice.specs.declared.rows.Next.TheVariants.{ByRow, Stays}
 use Rattle.dir_slice.proofs.Sets.{cases_bool}
@@ -40,23 +36,23 @@ invalidate_within : (tiles r : ℕ) (left : List ℕ) → r ≤ tiles → All (�
 invalidate_within tiles r [] from all = from
 invalidate_within tiles r (x ∷ xs) from all = (from, all)
 
-pub serve_within : (tiles : ℕ) (state : State) (write : Bool) (r : ℕ) → StateIsWithin tiles state → r ≤ tiles → StateIsWithin tiles (serve state write r).state
-serve_within tiles Uncached false r h from = All-cons (λ node. node ≤ tiles) r [] from (All-nil (λ node. node ≤ tiles))
-serve_within tiles Uncached true r h from = from
-serve_within tiles (Shared sharers) false r h from = All-with_node (λ node. node ≤ tiles) r sharers from h
-serve_within tiles (Shared sharers) true r h from = invalidate_within tiles r (without r sharers) from (All-filter _ (λ node. node ≤ tiles) sharers h)
-serve_within tiles (Modified owner) write r h from = (from, h)
-serve_within tiles (BusyInv requester left) write r h from = h
-serve_within tiles (BusyFetch w requester owner) write r h from = h
+pub row_within : (tiles : ℕ) (state : State) (write : Bool) (r : ℕ) → StateIsWithin tiles state → r ≤ tiles → StateIsWithin tiles (request_row state write r).state
+row_within tiles Uncached false r h from = All-cons (λ node. node ≤ tiles) r [] from (All-nil (λ node. node ≤ tiles))
+row_within tiles Uncached true r h from = from
+row_within tiles (Shared sharers) false r h from = All-with_node (λ node. node ≤ tiles) r sharers from h
+row_within tiles (Shared sharers) true r h from = invalidate_within tiles r (without r sharers) from (All-filter _ (λ node. node ≤ tiles) sharers h)
+row_within tiles (Modified owner) write r h from = (from, h)
+row_within tiles (BusyInv requester left) write r h from = h
+row_within tiles (BusyFetch w requester owner) write r h from = h
 
-pub served_within : (c : Config) (tile line : ℕ) (h : Home) (q : Request) → IsWithin c.tiles h → q.from ≤ c.tiles → IsWithin c.tiles (served c tile line h q).home
-served_within c tile line h q in_range from = record { state = serve_within c.tiles h.state q.write q.from in_range.state from; waiting = in_range.waiting }
+pub taken_up_within : (c : Config) (tile line : ℕ) (h : Home) (q : Request) → IsWithin c.tiles h → q.from ≤ c.tiles → IsWithin c.tiles (taken_up c tile line h q).home
+taken_up_within c tile line h q in_range from = record { state = row_within c.tiles h.state q.write q.from in_range.state from; waiting = in_range.waiting }
 
 -- so a transaction that begins asks nodes of the machine
 pub asked_within : (tiles : ℕ) (before taken state : State) (row : Row) (write : Bool) (r : ℕ) → StateIsWithin tiles before → r ≤ tiles → taken ≡ before
-    → row ≡ serve taken write r → state ≡ row.state → All (λ node. node ≤ tiles) (awaited state)
+    → row ≡ request_row taken write r → state ≡ row.state → All (λ node. node ≤ tiles) (awaited state)
 asked_within tiles before taken state row write r in_range from taken_is row_is state_is =
-    let after : StateIsWithin tiles state = rw (state_is, row_is, taken_is) (serve_within tiles before write r in_range from) in
+    let after : StateIsWithin tiles state = rw (state_is, row_is, taken_is) (row_within tiles before write r in_range from) in
     awaited_within tiles state after
 
 -- without the first of the waiting requests, and with one more at the end
@@ -70,10 +66,10 @@ pub more_within : (tiles : ℕ) (h : Home) (q : Request) (requests : List Reques
 more_within tiles h q requests in_range from e = record { state = in_range.state; waiting = rw e (All-push (λ r. r.from ≤ tiles) h.waiting q in_range.waiting from) }
 
 pub made_within : (c : Config) (tile line : ℕ) (h : Home) (q : Request) (rest : List Request) (next : Home) (out_old out_new : Mail) → IsWithin c.tiles h → h.waiting ≡ q ∷ rest
-    → IsMade (served c tile line (record h { waiting = rest }) q) next out_old out_new → IsWithin c.tiles next
+    → IsMade (taken_up c tile line (record h { waiting = rest }) q) next out_old out_new → IsWithin c.tiles next
 made_within c tile line h q rest next out_old out_new in_range e made =
     let first : q.from ≤ c.tiles = first_within c.tiles h q rest in_range e in
-    rw made.home (served_within c tile line (record h { waiting = rest }) q (later_within c.tiles h q rest in_range e) first)
+    rw made.home (taken_up_within c tile line (record h { waiting = rest }) q (later_within c.tiles h q rest in_range e) first)
 
 acked_by_within : (tiles r : ℕ) (left : List ℕ) → r ≤ tiles → All (λ node. node ≤ tiles) left → StateIsWithin tiles (acked_by r left).state
 acked_by_within tiles r [] from all = from
@@ -91,25 +87,25 @@ put_by_within tiles true r from = from
 abbrev RowsAreWithin : ℕ → Option Row → Type 0
 RowsAreWithin tiles found = IfSome found (λ row. StateIsWithin tiles row.state)
 
-pub acked_within : (tiles : ℕ) (state : State) (from : ℕ) → StateIsWithin tiles state → RowsAreWithin tiles (acked state from)
-acked_within tiles (BusyInv r left) from h = acked_by_within tiles r (without from left) h.0 (All-filter _ (λ node. node ≤ tiles) left h.1)
-acked_within tiles _ from h = tt
+pub ack_within : (tiles : ℕ) (state : State) (from : ℕ) → StateIsWithin tiles state → RowsAreWithin tiles (ack_row state from)
+ack_within tiles (BusyInv r left) from h = acked_by_within tiles r (without from left) h.0 (All-filter _ (λ node. node ≤ tiles) left h.1)
+ack_within tiles _ from h = tt
 
 if_row : (tiles : ℕ) (b : Bool) (row : Row) → StateIsWithin tiles row.state → RowsAreWithin tiles (if b then Some row else None)
 if_row tiles true row h = h
 if_row tiles false row h = tt
 
-pub fetched_within : (tiles : ℕ) (state : State) (from : ℕ) → StateIsWithin tiles state → RowsAreWithin tiles (fetched state from)
-fetched_within tiles (BusyFetch write r owner) from h = if_row tiles (from == owner) (fetched_by write r owner) (fetched_by_within tiles write r owner h.0 h.1)
-fetched_within tiles _ from h = tt
+pub fetch_within : (tiles : ℕ) (state : State) (from : ℕ) → StateIsWithin tiles state → RowsAreWithin tiles (fetch_row state from)
+fetch_within tiles (BusyFetch write r owner) from h = if_row tiles (from == owner) (fetched_by write r owner) (fetched_by_within tiles write r owner h.0 h.1)
+fetch_within tiles _ from h = tt
 
-pub put_within : (tiles : ℕ) (state : State) (from : ℕ) → StateIsWithin tiles state → RowsAreWithin tiles (put state from)
+pub put_within : (tiles : ℕ) (state : State) (from : ℕ) → StateIsWithin tiles state → RowsAreWithin tiles (put_row state from)
 put_within tiles (Modified owner) from h = if_row tiles (from == owner) (same Uncached) tt
 put_within tiles (BusyFetch write r owner) from h = if_row tiles (from == owner) (put_by write r) (put_by_within tiles write r h.0)
 put_within tiles _ from h = tt
 
-pub next_within : (tiles : ℕ) (h old : Home) (state taken : State) (next : Next) (found : State → Option Row) → IsWithin tiles h → taken ≡ h.state → old ≡ record h { state = state }
-    → IsNext next taken (found taken) → RowsAreWithin tiles (found h.state) → NextIsWithin tiles old next
+pub next_within : (tiles : ℕ) (h old : Home) (state : State) (taken : KeptState) (next : Next) (found : State → Option Row) → IsWithin tiles h → state_of taken ≡ h.state
+    → old ≡ record h { state = state } → IsNext next (state_of taken) (found (state_of taken)) → RowsAreWithin tiles (found h.state) → NextIsWithin tiles old next
 next_within tiles h old state taken (ByRow row) found in_range taken_is is found_is rows =
     let of_home : found h.state ≡ Some row = subst (λ s. found s ≡ Some row) taken_is found_is in
     let after : StateIsWithin tiles row.state = subst (RowsAreWithin tiles) of_home rows in
@@ -124,8 +120,8 @@ settled_within c tile line h [] in_range all = record { state = in_range; waitin
 settled_within c tile line h (q ∷ rest) in_range all =
     elim (cases_bool (is_busy h.state)) [
       | inl t ↦ rw t (record { state = in_range; waiting = all })
-      | inr t ↦ let after : StateIsWithin c.tiles (serve h.state q.write q.from).state = serve_within c.tiles h.state q.write q.from in_range (All-head (λ r. r.from ≤ c.tiles) q rest all) in
-          rw t (settled_within c tile line (served c tile line h q).home rest after (All-tail (λ r. r.from ≤ c.tiles) q rest all))
+      | inr t ↦ let after : StateIsWithin c.tiles (request_row h.state q.write q.from).state = row_within c.tiles h.state q.write q.from in_range (All-head (λ r. r.from ≤ c.tiles) q rest all) in
+          rw t (settled_within c tile line (taken_up c tile line h q).home rest after (All-tail (λ r. r.from ≤ c.tiles) q rest all))
     ]
 
 pub requested_within : (c : Config) (tile line : ℕ) (h : Home) (q : Request) → IsWithin c.tiles h → q.from ≤ c.tiles → IsWithin c.tiles (requested c tile line h q).home
@@ -138,10 +134,10 @@ answered_within c tile line h content (Some row) in_range rows = settled_within 
 answered_within c tile line h content None in_range rows = tt
 
 pub acknowledged_within : (c : Config) (tile line : ℕ) (h : Home) (from : ℕ) → IsWithin c.tiles h → IfSome (acknowledged c tile line h from) (λ step. IsWithin c.tiles step.home)
-acknowledged_within c tile line h from in_range = answered_within c tile line h h.memory (acked h.state from) in_range (acked_within c.tiles h.state from in_range.state)
+acknowledged_within c tile line h from in_range = answered_within c tile line h h.memory (ack_row h.state from) in_range (ack_within c.tiles h.state from in_range.state)
 
 pub fetch_answered_within : (c : Config) (tile line : ℕ) (h : Home) (from : ℕ) (content : LineData) → IsWithin c.tiles h → IfSome (fetch_answered c tile line h from content) (λ step. IsWithin c.tiles step.home)
-fetch_answered_within c tile line h from content in_range = answered_within c tile line h content (fetched h.state from) in_range (fetched_within c.tiles h.state from in_range.state)
+fetch_answered_within c tile line h from content in_range = answered_within c tile line h content (fetch_row h.state from) in_range (fetch_within c.tiles h.state from in_range.state)
 
 pub given_up_within : (c : Config) (tile line : ℕ) (h : Home) (from : ℕ) (content : LineData) → IsWithin c.tiles h → IfSome (given_up c tile line h from content) (λ step. IsWithin c.tiles step.home)
-given_up_within c tile line h from content in_range = answered_within c tile line h content (put h.state from) in_range (put_within c.tiles h.state from in_range.state)
+given_up_within c tile line h from content in_range = answered_within c tile line h content (put_row h.state from) in_range (put_within c.tiles h.state from in_range.state)

@@ -1,23 +1,16 @@
--- Whatever a home receives, requests wait only while a transaction is under way, and its set ascends, so that no node
--- stands in it twice.
+-- Whatever a home is told, requests wait only while a transaction is under way, its set ascends, and a writer waits for
+-- some node other than itself.
 use Rattle.std.proofs.Common.{◌≡◌, ℕ, ◌<◌, Bool, true, false, List, [], ◌∷◌, ◌++◌, refl, inl, inr, arith}
 use Rattle.std.specs.Prelude.{nat_lt, nat_eq, ◌==◌, filter, if◌then◌else◌, Option, Some, None, IfSome}
-use Rattle.std.specs.List.{list_any, AllByRecursion}
+use Rattle.std.specs.List.{AllByRecursion}
 use Rattle.std.proofs.lemmas.Bool.Decides.{nat_tests}
 use Rattle.sim_base.specs.declared.lines.LineData.{LineData}
 use Rattle.sim_base.specs.declared.settings.Config.{Config}
-use Rattle.dir_slice.specs.declared.states.Request.{Request}
-use Rattle.dir_slice.specs.declared.states.State.{State}
-use Rattle.dir_slice.specs.declared.states.State.TheVariants.{Uncached, Shared, Modified, BusyInv, BusyFetch}
-use Rattle.dir_slice.specs.Line.{Home, Row, fresh, same, is_busy, with_node, without, invalidate, serve, acked, acked_by, fetched, fetched_by, put, put_by}
-use Rattle.dir_slice.specs.Directory.{served, settled, with_data}
-use Rattle.dir_slice.specs.Received.{Received, request, ack, fetch_ack, put_back, home_after, received, after_all, has_twice, nodes_of, IsOrderly, StaysOrderly}
+use Rattle.wire_msg.specs.Message.{Up, asks, acknowledges, answers, gives_up}
+use Rattle.dir_slice.specs.Line.{Request, State, Uncached, Shared, Modified, BusyInv, BusyFetch, Home, Row, fresh, same, is_busy, with_node, without, invalidate, request_row, ack_row, acked_by, fetch_row, fetched_by, put_row, put_by}
+use Rattle.dir_slice.specs.Directory.{taken_up, settled, with_data, reaction, home_after}
+use Rattle.dir_slice.specs.Laws.{Ascends, has_node, StateIsOrderly, IsOrderly, FreshIsOrderly, KeepsOrderly, after_all, StaysOrderly}
 use Rattle.dir_slice.proofs.Sets.{cases_bool}
-
--- a list that ascends
-abbrev Ascends : List ℕ → Type 0
-Ascends [] = Unit {0}
-Ascends (x ∷ xs) = AllByRecursion (λ y. x < y) xs × Ascends xs
 
 farther : (a b : ℕ) (xs : List ℕ) → a < b → AllByRecursion (λ y. b < y) xs → AllByRecursion (λ y. a < y) xs
 farther a b [] lt all = tt
@@ -55,90 +48,93 @@ Ascends-filter p [] rises = tt
 Ascends-filter p (y ∷ ys) rises =
     elim (cases_bool (p y)) [ inl t ↦ rw t (above-filter p y ys rises.0, Ascends-filter p ys rises.1) | inr t ↦ rw t (Ascends-filter p ys rises.1) ]
 
-none_same : (x : ℕ) (ys : List ℕ) → AllByRecursion (λ y. x < y) ys → list_any (λ y. y == x) ys ≡ false
-none_same x [] all = refl
-none_same x (y ∷ ys) all = let lt : x < y = all.0 in let t : nat_eq y x ≡ false = grind (arith, nat_tests) in rw t (none_same x ys all.1)
+-- a set without a node lacks it, and lacks what it lacked
+lacks-without : (x : ℕ) (ys : List ℕ) → has_node x (without x ys) ≡ false
+lacks-without x [] = refl
+lacks-without x (y ∷ ys) = elim (cases_bool (nat_eq y x)) [ inl t ↦ rw t (lacks-without x ys) | inr t ↦ rw (t, t) (lacks-without x ys) ]
 
-none_twice : (xs : List ℕ) → Ascends xs → has_twice xs ≡ false
-none_twice [] rises = refl
-none_twice (x ∷ xs) rises = rw (none_same x xs rises.0) (none_twice xs rises.1)
-
--- the rows keep sets so
-invalidate_ascends : (r : ℕ) (left : List ℕ) → Ascends left → Ascends (nodes_of (invalidate r left).state)
-invalidate_ascends r [] rises = tt
-invalidate_ascends r (x ∷ xs) rises = rises
-
-serve_ascends : (state : State) (write : Bool) (r : ℕ) → Ascends (nodes_of state) → Ascends (nodes_of (serve state write r).state)
-serve_ascends Uncached false r rises = (tt, tt)
-serve_ascends Uncached true r rises = tt
-serve_ascends (Shared sharers) false r rises = Ascends-with_node r sharers rises
-serve_ascends (Shared sharers) true r rises = invalidate_ascends r (without r sharers) (Ascends-filter _ sharers rises)
-serve_ascends (Modified owner) write r rises = tt
-serve_ascends (BusyInv requester left) write r rises = rises
-serve_ascends (BusyFetch w requester owner) write r rises = tt
-
-abbrev RowAscends : Option Row → Type 0
-RowAscends found = IfSome found (λ row. Ascends (nodes_of row.state))
-
-acked_by_ascends : (r : ℕ) (left : List ℕ) → Ascends left → Ascends (nodes_of (acked_by r left).state)
-acked_by_ascends r [] rises = tt
-acked_by_ascends r (x ∷ xs) rises = rises
-
-acked_ascends : (state : State) (from : ℕ) → Ascends (nodes_of state) → RowAscends (acked state from)
-acked_ascends (BusyInv r left) from rises = acked_by_ascends r (without from left) (Ascends-filter _ left rises)
-acked_ascends _ from rises = tt
-
-fetched_by_ascends : (write : Bool) (r owner : ℕ) → Ascends (nodes_of (fetched_by write r owner).state)
-fetched_by_ascends false r owner = Ascends-with_node r (owner ∷ []) (tt, tt)
-fetched_by_ascends true r owner = tt
-
-put_by_ascends : (write : Bool) (r : ℕ) → Ascends (nodes_of (put_by write r).state)
-put_by_ascends false r = (tt, tt)
-put_by_ascends true r = tt
-
-if_row : (b : Bool) (row : Row) → Ascends (nodes_of row.state) → RowAscends (if b then Some row else None)
-if_row true row rises = rises
-if_row false row rises = tt
-
-fetched_ascends : (state : State) (from : ℕ) → RowAscends (fetched state from)
-fetched_ascends (BusyFetch write r owner) from = if_row (from == owner) (fetched_by write r owner) (fetched_by_ascends write r owner)
-fetched_ascends _ from = tt
-
-put_ascends : (state : State) (from : ℕ) → RowAscends (put state from)
-put_ascends (Modified owner) from = if_row (from == owner) (same Uncached) tt
-put_ascends (BusyFetch write r owner) from = if_row (from == owner) (put_by write r) (put_by_ascends write r)
-put_ascends _ from = tt
-
--- a home of which that is true
-record Orders (h : Home) : Type 0 where
-  waits_while_busy : is_busy h.state ≡ false → h.waiting ≡ []
-  ascends : Ascends (nodes_of h.state)
-
-orderly : (h : Home) → Orders h → IsOrderly h
-orderly h o = record { waits_while_busy = o.waits_while_busy; distinct = none_twice (nodes_of h.state) o.ascends }
-
-settled_orders : (c : Config) (tile line : ℕ) (h : Home) (requests : List Request) → Ascends (nodes_of h.state) → Orders (settled c tile line h requests).home
-settled_orders c tile line h [] rises = record { waits_while_busy = λ free. refl; ascends = rises }
-settled_orders c tile line h (q ∷ rest) rises =
-    elim (cases_bool (is_busy h.state)) [
-      | inl t ↦ rw t (record { waits_while_busy = λ (free : is_busy h.state ≡ false). cc; ascends = rises })
-      | inr t ↦ rw t (settled_orders c tile line (served c tile line h q).home rest (serve_ascends h.state q.write q.from rises))
+lacks-filter : (p : ℕ → Bool) (x : ℕ) (ys : List ℕ) → has_node x ys ≡ false → has_node x (filter p ys) ≡ false
+lacks-filter p x [] none = refl
+lacks-filter p x (y ∷ ys) none =
+    elim (cases_bool (nat_eq y x)) [
+      | inl t ↦ cc
+      | inr t ↦ let rest : has_node x ys ≡ false = rw t at none in
+          elim (cases_bool (p y)) [ inl e ↦ rw (e, t) (lacks-filter p x ys rest) | inr e ↦ rw e (lacks-filter p x ys rest) ]
     ]
 
-answered_orders : (c : Config) (tile line : ℕ) (h : Home) (content : LineData) (found : Option Row) → Orders h → RowAscends found → Orders (home_after h (with_data c tile line h content found))
-answered_orders c tile line h content (Some row) o rises = settled_orders c tile line (record h { state = row.state; memory = content }) h.waiting rises
-answered_orders c tile line h content None o rises = o
+-- the rows keep states so
+invalidate_orderly : (r : ℕ) (left : List ℕ) → Ascends left → has_node r left ≡ false → StateIsOrderly (invalidate r left).state
+invalidate_orderly r [] rises lacks = tt
+invalidate_orderly r (x ∷ xs) rises lacks = (rises, λ (none : x ∷ xs ≡ []). cc, lacks)
 
-received_orders : (c : Config) (tile line : ℕ) (h : Home) (m : Received) → Orders h → Orders (received c tile line h m)
-received_orders c tile line h (request q) o = settled_orders c tile line (record h { waiting = h.waiting ++ q ∷ [] }) (h.waiting ++ q ∷ []) o.ascends
-received_orders c tile line h (ack s) o = answered_orders c tile line h h.memory (acked h.state s) o (acked_ascends h.state s o.ascends)
-received_orders c tile line h (fetch_ack s content) o = answered_orders c tile line h content (fetched h.state s) o (fetched_ascends h.state s)
-received_orders c tile line h (put_back s content) o = answered_orders c tile line h content (put h.state s) o (put_ascends h.state s)
+request_orderly : (state : State) (write : Bool) (r : ℕ) → StateIsOrderly state → StateIsOrderly (request_row state write r).state
+request_orderly Uncached false r o = (tt, tt)
+request_orderly Uncached true r o = tt
+request_orderly (Shared sharers) false r o = Ascends-with_node r sharers o
+request_orderly (Shared sharers) true r o = invalidate_orderly r (without r sharers) (Ascends-filter _ sharers o) (lacks-without r sharers)
+request_orderly (Modified owner) write r o = tt
+request_orderly (BusyInv requester left) write r o = o
+request_orderly (BusyFetch w requester owner) write r o = tt
 
-all_orders : (c : Config) (tile line : ℕ) (h : Home) (messages : List Received) → Orders h → Orders (after_all c tile line h messages)
-all_orders c tile line h [] o = o
-all_orders c tile line h (m ∷ messages) o = all_orders c tile line (received c tile line h m) messages (received_orders c tile line h m o)
+abbrev RowIsOrderly : Option Row → Type 0
+RowIsOrderly found = IfSome found (λ row. StateIsOrderly row.state)
+
+acked_by_orderly : (r : ℕ) (left : List ℕ) → Ascends left → has_node r left ≡ false → StateIsOrderly (acked_by r left).state
+acked_by_orderly r [] rises lacks = tt
+acked_by_orderly r (x ∷ xs) rises lacks = (rises, λ (none : x ∷ xs ≡ []). cc, lacks)
+
+ack_orderly : (state : State) (from : ℕ) → StateIsOrderly state → RowIsOrderly (ack_row state from)
+ack_orderly (BusyInv r left) from o = acked_by_orderly r (without from left) (Ascends-filter _ left o.0) (lacks-filter _ r left o.2)
+ack_orderly _ from o = tt
+
+fetched_by_orderly : (write : Bool) (r owner : ℕ) → StateIsOrderly (fetched_by write r owner).state
+fetched_by_orderly false r owner = Ascends-with_node r (owner ∷ []) (tt, tt)
+fetched_by_orderly true r owner = tt
+
+put_by_orderly : (write : Bool) (r : ℕ) → StateIsOrderly (put_by write r).state
+put_by_orderly false r = (tt, tt)
+put_by_orderly true r = tt
+
+if_row : (b : Bool) (row : Row) → StateIsOrderly row.state → RowIsOrderly (if b then Some row else None)
+if_row true row o = o
+if_row false row o = tt
+
+fetch_orderly : (state : State) (from : ℕ) → RowIsOrderly (fetch_row state from)
+fetch_orderly (BusyFetch write r owner) from = if_row (from == owner) (fetched_by write r owner) (fetched_by_orderly write r owner)
+fetch_orderly _ from = tt
+
+put_orderly : (state : State) (from : ℕ) → RowIsOrderly (put_row state from)
+put_orderly (Modified owner) from = if_row (from == owner) (same Uncached) tt
+put_orderly (BusyFetch write r owner) from = if_row (from == owner) (put_by write r) (put_by_orderly write r)
+put_orderly _ from = tt
+
+-- and the waiting requests are taken up until a transaction is under way
+settled_orderly : (c : Config) (tile line : ℕ) (h : Home) (requests : List Request) → StateIsOrderly h.state → IsOrderly (settled c tile line h requests).home
+settled_orderly c tile line h [] o = record { waits_while_busy = λ free. refl; state = o }
+settled_orderly c tile line h (q ∷ rest) o =
+    elim (cases_bool (is_busy h.state)) [
+      | inl t ↦ rw t (record { waits_while_busy = λ (free : is_busy h.state ≡ false). cc; state = o })
+      | inr t ↦ rw t (settled_orderly c tile line (taken_up c tile line h q).home rest (request_orderly h.state q.write q.from o))
+    ]
+
+answer_orderly : (c : Config) (tile line : ℕ) (h : Home) (content : LineData) (found : Option Row) → IsOrderly h → RowIsOrderly found → IsOrderly (home_after h (with_data c tile line h content found))
+answer_orderly c tile line h content (Some row) o after = settled_orderly c tile line (record h { state = row.state; memory = content }) h.waiting after
+answer_orderly c tile line h content None o after = o
+
+pub fresh_is_orderly : FreshIsOrderly
+fresh_is_orderly memory = record { waits_while_busy = λ free. refl; state = tt }
+
+pub keeps_orderly : KeepsOrderly
+keeps_orderly c tile line h from (asks write) o =
+    settled_orderly c tile line (record h { waiting = h.waiting ++ record { from = from; write = write } ∷ [] }) (h.waiting ++ record { from = from; write = write } ∷ []) o.state
+keeps_orderly c tile line h from acknowledges o = answer_orderly c tile line h h.memory (ack_row h.state from) o (ack_orderly h.state from o.state)
+keeps_orderly c tile line h from (answers content) o = answer_orderly c tile line h content (fetch_row h.state from) o (fetch_orderly h.state from)
+keeps_orderly c tile line h from (gives_up content) o = answer_orderly c tile line h content (put_row h.state from) o (put_orderly h.state from)
+
+-- so it is after all messages
+all_orderly : (c : Config) (tile line : ℕ) (h : Home) (messages : List (ℕ × Up)) → IsOrderly h → IsOrderly (after_all c tile line h messages)
+all_orderly c tile line h [] o = o
+all_orderly c tile line h (m ∷ messages) o = all_orderly c tile line (home_after h (reaction c tile line h m.0 m.1)) messages (keeps_orderly c tile line h m.0 m.1 o)
 
 pub stays_orderly : StaysOrderly
-stays_orderly c tile line memory messages =
-    orderly (after_all c tile line (fresh memory) messages) (all_orders c tile line (fresh memory) messages (record { waits_while_busy = λ free. refl; ascends = tt }))
+stays_orderly c tile line memory messages = all_orderly c tile line (fresh memory) messages (fresh_is_orderly memory)

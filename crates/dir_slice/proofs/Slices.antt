@@ -11,12 +11,9 @@ use Rattle.sim_base.specs.declared.settings.Config.{Config}
 use Rattle.sim_base.specs.declared.lines.LineData.{LineData}
 use Rattle.dir_slice.specs.declared.home.Answer.{Answer}
 use Rattle.dir_slice.specs.declared.home.Answer.TheVariants.{Dropped, Fetched, GivenUp}
-use Rattle.dir_slice.specs.Line.{Home, fresh}
-use Rattle.dir_slice.specs.Directory.{Mail, Slice, Step, Answers, zero_line, home_at, requested}
-use Rattle.dir_slice.specs.declared.states.Request.{Request}
-use Rattle.dir_slice.specs.Answers.{answered}
-use Rattle.dir_slice.specs.Made.{IsMade, IsMadeIfAny, without_home}
-use Rattle.dir_slice.specs.Nodes.{IsWithin, AreWithin}
+use Rattle.dir_slice.specs.Line.{Home, fresh, Request}
+use Rattle.dir_slice.specs.Inner.{up_of_answer, IsMade, IsMadeIfAny, without_home, IsWithin, AreWithin}
+use Rattle.dir_slice.specs.Directory.{Mail, Slice, Step, Answers, zero_line, home_at, requested, reaction}
 use Rattle.dir_slice.proofs.Sets.{cases_bool}
 use Rattle.dir_slice.proofs.Nodes.{requested_within, acknowledged_within, fetch_answered_within, given_up_within}
 
@@ -93,41 +90,42 @@ answered_over s line h new None put out_old out_new free known put_is made =
 -- a call ends where the line's home was put back after its step
 pub answer_made : (step : ℕ → Home → Option Step) (old now : Slice) (line : ℕ) (h new : Home) (put : FinMap nat_cmp Home) (out_old out_new : Mail) → old.spent ≡ false → now ≡ under_way old
     → Some h ≡ get now.homes line → put ≡ insert (without_home now.homes line) line new → IsMadeIfAny (step now.tile h) h new out_old out_new
-    → AnswersOk old (record now { homes = put; spent = false }) out_old out_new line (step old.tile (home_at old line))
+    → AnswersOk old (record now { homes = put; spent = false }) out_old out_new line (step old.tile (home_at old.homes line))
 answer_made step old now line h new put out_old out_new free now_is =
     let P : Slice → Type 0 = λ s. Some h ≡ get s.homes line → put ≡ insert (without_home s.homes line) line new → IsMadeIfAny (step s.tile h) h new out_old out_new
-    → AnswersOk old (record s { homes = put; spent = false }) out_old out_new line (step old.tile (home_at old line)) in
-    let at_old : P (under_way old) = λ known put_is made. let at : home_at old line ≡ h = rw (← known) refl in
+    → AnswersOk old (record s { homes = put; spent = false }) out_old out_new line (step old.tile (home_at old.homes line)) in
+    let at_old : P (under_way old) = λ known put_is made. let at : home_at old.homes line ≡ h = rw (← known) refl in
     rw at (answered_over old line h new (step old.tile h) put out_old out_new free known put_is made) in
     subst P (sym now_is) at_old
 
 pub request_made : (step : ℕ → Home → Step) (old now : Slice) (line : ℕ) (h new : Home) (put : FinMap nat_cmp Home) (out_old out_new : Mail) → old.spent ≡ false → now ≡ under_way old
-    → h ≡ home_at now line → put ≡ insert (without_home now.homes line) line new → IsMade (step now.tile h) new out_old out_new
-    → AnswersOk old (record now { homes = put; spent = false }) out_old out_new line (Some (step old.tile (home_at old line)))
+    → h ≡ home_at now.homes line → put ≡ insert (without_home now.homes line) line new → IsMade (step now.tile h) new out_old out_new
+    → AnswersOk old (record now { homes = put; spent = false }) out_old out_new line (Some (step old.tile (home_at old.homes line)))
 request_made step old now line h new put out_old out_new free now_is =
-    let P : Slice → Type 0 = λ s. h ≡ home_at s line → put ≡ insert (without_home s.homes line) line new → IsMade (step s.tile h) new out_old out_new
-    → AnswersOk old (record s { homes = put; spent = false }) out_old out_new line (Some (step old.tile (home_at old line))) in
+    let P : Slice → Type 0 = λ s. h ≡ home_at s.homes line → put ≡ insert (without_home s.homes line) line new → IsMade (step s.tile h) new out_old out_new
+    → AnswersOk old (record s { homes = put; spent = false }) out_old out_new line (Some (step old.tile (home_at old.homes line))) in
     let at_old : P (under_way old) = λ home_is put_is made.
     subst (λ o. AnswersOk old (record old { homes = put; spent = false }) out_old out_new line (Some (step old.tile o))) home_is
     (made_over old line new (step old.tile h) put out_old out_new free put_is made) in
     subst P (sym now_is) at_old
 
 -- the home that is put back knows nodes of the machine alone
-answered_within : (c : Config) (tile line : ℕ) (h : Home) (from : ℕ) (answer : Answer) → IsWithin c.tiles h → IfSome (answered c tile line h from answer) (λ step. IsWithin c.tiles step.home)
-answered_within c tile line h from Dropped in_range = acknowledged_within c tile line h from in_range
-answered_within c tile line h from (Fetched content) in_range = fetch_answered_within c tile line h from content in_range
-answered_within c tile line h from (GivenUp content) in_range = given_up_within c tile line h from content in_range
+reaction_within : (c : Config) (tile line : ℕ) (h : Home) (from : ℕ) (answer : Answer) → IsWithin c.tiles h
+    → IfSome (reaction c tile line h from (up_of_answer answer)) (λ step. IsWithin c.tiles step.home)
+reaction_within c tile line h from Dropped in_range = acknowledged_within c tile line h from in_range
+reaction_within c tile line h from (Fetched content) in_range = fetch_answered_within c tile line h from content in_range
+reaction_within c tile line h from (GivenUp content) in_range = given_up_within c tile line h from content in_range
 
 made_if_any_within : (tiles : ℕ) (step : Option Step) (h new : Home) (out_old out_new : Mail) → IsWithin tiles h → IfSome step (λ s. IsWithin tiles s.home) → IsMadeIfAny step h new out_old out_new → IsWithin tiles new
 made_if_any_within tiles (Some step) h new out_old out_new in_range after made = rw made.home after
 made_if_any_within tiles None h new out_old out_new in_range after made = rw made.0 in_range
 
 pub answer_within : (c : Config) (tile line tiles : ℕ) (homes : FinMap nat_cmp Home) (h new : Home) (from : ℕ) (answer : Answer) (out_old out_new : Mail) → c.tiles ≡ tiles → AreWithin tiles homes
-    → Some h ≡ get homes line → IsMadeIfAny (answered c tile line h from answer) h new out_old out_new → IsWithin tiles new
+    → Some h ≡ get homes line → IsMadeIfAny (reaction c tile line h from (up_of_answer answer)) h new out_old out_new → IsWithin tiles new
 answer_within c tile line tiles homes h new from answer out_old out_new same all known made =
     let before : IsWithin tiles h = subst (λ o. IfSome o (IsWithin tiles)) (sym known) (all line) in
     let at_machine : IsWithin c.tiles h = rw same before in
-    let after : IsWithin c.tiles new = made_if_any_within c.tiles (answered c tile line h from answer) h new out_old out_new at_machine (answered_within c tile line h from answer at_machine) made in
+    let after : IsWithin c.tiles new = made_if_any_within c.tiles (reaction c tile line h from (up_of_answer answer)) h new out_old out_new at_machine (reaction_within c tile line h from answer at_machine) made in
     subst (λ n. IsWithin n new) same after
 
 home_within : (tiles : ℕ) (found : Option Home) → IfSome found (IsWithin tiles) → IsWithin tiles (unwrap_or found (fresh zero_line))

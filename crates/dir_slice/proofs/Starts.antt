@@ -12,9 +12,8 @@ use Rattle.sim_base.specs.Numbering.{home_of}
 use Rattle.elf_image.specs.declared.program.Segment.{Segment}
 use Rattle.elf_image.specs.Layout.{Setup, initial_line}
 use Rattle.dir_slice.specs.Line.{Home, fresh}
-use Rattle.dir_slice.specs.Directory.{file_lines, homed_lines, start_slice}
-use Rattle.dir_slice.specs.Start.{has, PutsLines}
-use Rattle.dir_slice.specs.Nodes.{AreWithin}
+use Rattle.dir_slice.specs.Inner.{has, PutsLines, AreWithin}
+use Rattle.dir_slice.specs.Directory.{file_lines, homed_lines, start_homes}
 use Rattle.dir_slice.proofs.Slices.{fresh_within, chosen_within}
 
 same_test : (q line : ℕ) → (q ≡ line) ⊎ (q ≡ line → ⊥)
@@ -80,29 +79,29 @@ segment_put w tile s old new len end len_is some low high puts q =
     puts q ∙ ap (λ b. cond (nat_eq (home_of w.config q) tile && b) (Some (fresh (initial_line w q))) (get old q)) e
 
 -- what the slice of the start has of a line
-pub get-start : (w : Setup) (tile q : ℕ) → get (start_slice w tile).homes q
+pub get-start : (w : Setup) (tile q : ℕ) → get (start_homes w tile) q
     ≡ cond (nat_eq (home_of w.config q) tile && has (flat_map file_lines w.image.segments) q) (Some (fresh (initial_line w q))) None
-unfolding start_slice
+unfolding start_homes
 get-start w tile q =
     let kept : has (homed_lines w tile) q ≡ (nat_eq (home_of w.config q) tile && has (flat_map file_lines w.image.segments) q)
     = any-filter_same (nat_eq q) (λ line. home_of w.config line == tile) (nat_eq (home_of w.config q) tile) (λ k t. ap (λ l. nat_eq (home_of w.config l) tile) (sym (exact_unsigned_eq q k t)))
     (flat_map file_lines w.image.segments) in
     get-from_entries nat_cmp_total _ q ∙ find-mapped (λ line. fresh (initial_line w line)) q (homed_lines w tile) ∙ ap (λ b. cond b (Some (fresh (initial_line w q))) None) kept
 
-start_put : (w : Setup) (tile : ℕ) (homes : FinMap nat_cmp Home) → PutsLines w tile (has (flat_map file_lines w.image.segments)) empty homes → homes ≡ (start_slice w tile).homes
+start_put : (w : Setup) (tile : ℕ) (homes : FinMap nat_cmp Home) → PutsLines w tile (has (flat_map file_lines w.image.segments)) empty homes → homes ≡ start_homes w tile
 start_put w tile homes puts =
     same_map nat_cmp_total nat_cmp-IsAntisymmetric _ _ (λ q. puts q
     ∙ ap (cond (nat_eq (home_of w.config q) tile && has (flat_map file_lines w.image.segments) q) (Some (fresh (initial_line w q)))) (get-empty nat_cmp q) ∙ sym (get-start w tile q))
 
 pub lines_put : (w : Setup) (tile : ℕ) (homes : FinMap nat_cmp Home) (segments : List Segment) (n : ℕ) → segments ≡ w.image.segments → length segments ≤ n
-    → PutsLines w tile (has (flat_map file_lines (take n w.image.segments))) empty homes → homes ≡ (start_slice w tile).homes
+    → PutsLines w tile (has (flat_map file_lines (take n w.image.segments))) empty homes → homes ≡ start_homes w tile
 lines_put w tile homes segments n is all puts =
     let size : length w.image.segments ≤ n = subst (λ ss. length ss ≤ n) is all in
     let whole : take n w.image.segments ≡ w.image.segments = take_all n w.image.segments size in
     start_put w tile homes (subst (λ ss. PutsLines w tile (has (flat_map file_lines ss)) empty homes) whole puts)
 
 -- nobody is known at the start
-pub start_within : (w : Setup) (tile tiles : ℕ) (homes : FinMap nat_cmp Home) → homes ≡ (start_slice w tile).homes → AreWithin tiles homes
+pub start_within : (w : Setup) (tile tiles : ℕ) (homes : FinMap nat_cmp Home) → homes ≡ start_homes w tile → AreWithin tiles homes
 start_within w tile tiles homes is =
     λ q. let there : get homes q ≡ cond (nat_eq (home_of w.config q) tile && has (flat_map file_lines w.image.segments) q) (Some (fresh (initial_line w q))) None
     = ap (λ m. get m q) is ∙ get-start w tile q in

@@ -11,8 +11,9 @@ use Rattle.elf_image.specs.declared.program.Segment.{Segment}
 use Rattle.elf_image.specs.Image.{holds}
 use Rattle.elf_image.specs.Layout.{Setup, byte_of, start_byte, initial_line, initial_bytes}
 use Rattle.dir_slice.specs.Line.{fresh}
+use Rattle.dir_slice.specs.Inner.{has}
+use Rattle.dir_slice.specs.Laws.{StartsAsTheImage}
 use Rattle.dir_slice.specs.Directory.{file_lines, zero_line}
-use Rattle.dir_slice.specs.Start.{has, StartsAsTheImage}
 use Rattle.dir_slice.proofs.Sets.{cases_bool}
 use Rattle.dir_slice.proofs.Starts.{any-range, get-start}
 

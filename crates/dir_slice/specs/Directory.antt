@@ -1,5 +1,5 @@
 -- A slice of the directory: the lines whose home is one tile. Every message is a row of the table; a request goes to
--- the end of the line's waiting ones first. Then the waiting ones are served in order until a transaction is under
+-- the end of the line's waiting ones first. Then the waiting ones are taken up in order until a transaction is under
 -- way or none is left.
 use Rattle.std.specs.Prelude.{ℕ, ◌+◌, ◌-◌, ◌/◌, ◌==◌, ◌≡◌, Bool, true, false, List, [], ◌∷◌, ◌++◌, length, map, filter, fold, max, replicate, if◌then◌else◌, Option, Some, None, unwrap_or, Result, Ok, Err}
 use Rattle.std.specs.Option.{option_map}
@@ -16,8 +16,8 @@ use Rattle.mesh_model.specs.Mesh.{hops_between}
 use Rattle.mesh_model.specs.Cost.{delay_of}
 use Rattle.wire_msg.specs.declared.messages.Msg.{Msg}
 use Rattle.wire_msg.specs.declared.messages.Msg.TheVariants.{DataS, DataM, Inv, Fetch, FetchInv}
-use Rattle.dir_slice.specs.declared.states.Request.{Request}
-use Rattle.dir_slice.specs.Line.{Home, Row, Sent, drop_copy, fetch, give, fresh, is_busy, serve, acked, fetched, put, awaited}
+use Rattle.wire_msg.specs.Message.{Up, asks, gives_up, acknowledges, answers}
+use Rattle.dir_slice.specs.Line.{Home, Request, Row, Sent, drop_copy, fetch, give, fresh, is_busy, request_row, ack_row, fetch_row, put_row, awaited}
 
 -- messages, each with its receiver
 abbrev pub Mail : Type 0
@@ -44,80 +44,82 @@ farthest c tile nodes = fold (λ most x. max most (hops_between c tile x)) 0 nod
 abbrev pub in_row : ℕ → Home → Row → Step
 in_row line h row = record { home = record h { state = row.state }; mail = map (message line h) row.sent }
 
--- a transaction begins: its delay is fixed by its requester and by the nodes that have to give up the line
-abbrev pub begun : Config → ℕ → ℕ → Home → Request → Row → Step
-begun c tile line h q row = in_row line (record h { delay = delay_of c q.from tile (farthest c tile (awaited row.state)) }) row
+-- the same with the delay of a new transaction, fixed by its requester and by the nodes that have to give up the line
+abbrev pub in_row_with_delay : Config → ℕ → ℕ → Home → Request → Row → Step
+in_row_with_delay c tile line h q row = in_row line (record h { delay = delay_of c q.from tile (farthest c tile (awaited row.state)) }) row
 
-abbrev pub served : Config → ℕ → ℕ → Home → Request → Step
-served c tile line h q = begun c tile line h q (serve h.state q.write q.from)
+-- a request's turn has come
+abbrev pub taken_up : Config → ℕ → ℕ → Home → Request → Step
+taken_up c tile line h q = in_row_with_delay c tile line h q (request_row h.state q.write q.from)
 
--- the waiting requests are served in order until a transaction is under way or none is left
+-- a step after what was sent before it
 abbrev pub before_mail : Mail → Step → Step
 before_mail mail s = record s { mail = mail ++ s.mail }
 
+-- the waiting requests are taken up in order until a transaction is under way or none is left
 abbrev pub settled : Config → ℕ → ℕ → Home → List Request → Step
 settled c tile line h [] = record { home = record h { waiting = [] }; mail = [] }
 settled c tile line h (q ∷ rest) =
     if is_busy h.state then record { home = record h { waiting = q ∷ rest }; mail = [] }
-    else before_mail (served c tile line h q).mail (settled c tile line (served c tile line h q).home rest)
+    else before_mail (taken_up c tile line h q).mail (settled c tile line (taken_up c tile line h q).home rest)
 
 abbrev pub settle : Config → ℕ → ℕ → Step → Step
 settle c tile line s = before_mail s.mail (settled c tile line s.home s.home.waiting)
 
 -- the messages; none where the table has no row, and then nothing changes and nothing is sent
 
--- a request waits, and is served at once where nothing is under way
+-- a request waits, and is taken up at once where nothing is under way
 abbrev pub requested : Config → ℕ → ℕ → Home → Request → Step
 requested c tile line h q = settle c tile line (record { home = record h { waiting = h.waiting ++ q ∷ [] }; mail = [] })
 
 -- a dropped copy is acknowledged
 abbrev pub acknowledged : Config → ℕ → ℕ → Home → ℕ → Option Step
-acknowledged c tile line h s = option_map (λ row. settle c tile line (in_row line h row)) (acked h.state s)
+acknowledged c tile line h s = option_map (λ row. settle c tile line (in_row line h row)) (ack_row h.state s)
 
 -- the owner's data comes by a row, and is the home's memory from then on
 abbrev pub with_data : Config → ℕ → ℕ → Home → LineData → Option Row → Option Step
 with_data c tile line h content row = option_map (λ row. settle c tile line (in_row line (record h { memory = content }) row)) row
 
 abbrev pub fetch_answered : Config → ℕ → ℕ → Home → ℕ → LineData → Option Step
-fetch_answered c tile line h s content = with_data c tile line h content (fetched h.state s)
+fetch_answered c tile line h s content = with_data c tile line h content (fetch_row h.state s)
 
 abbrev pub given_up : Config → ℕ → ℕ → Home → ℕ → LineData → Option Step
-given_up c tile line h s content = with_data c tile line h content (put h.state s)
+given_up c tile line h s content = with_data c tile line h content (put_row h.state s)
 
--- a slice: its tile, how many tiles the machine has, the lines that it knows of, and whether it is spent, as it is
--- once memory ran out in a call
-pub record Slice : Type 0 where
-  pub tile : ℕ
-  pub tiles : ℕ
-  pub homes : FinMap nat_cmp Home
-  pub spent : Bool
+-- what a home makes of what a node tells it of the line, if the table has a row for it
+abbrev pub reaction : Config → ℕ → ℕ → Home → ℕ → Up → Option Step
+reaction c tile line h from (asks write) = Some (requested c tile line h (record { from = from; write = write }))
+reaction c tile line h from acknowledges = acknowledged c tile line h from
+reaction c tile line h from (answers content) = fetch_answered c tile line h from content
+reaction c tile line h from (gives_up content) = given_up c tile line h from content
+
+-- a line at its home after a step, if one was made
+abbrev pub home_after : Home → Option Step → Home
+home_after h None = h
+home_after h (Some step) = step.home
+
+abbrev pub mail_of : Option Step → Mail
+mail_of None = []
+mail_of (Some step) = step.mail
+
+-- the lines whose home is one tile, as far as it knows them
 
 -- a line of zeros
 unfoldable pub zero_line : LineData
 zero_line = record { bytes = replicate 64 0 }
 
 -- a line at its home: one that isn't known yet is fresh, and zero
-abbrev pub home_at : Slice → ℕ → Home
-home_at s line = unwrap_or (get s.homes line) (fresh zero_line)
+abbrev pub home_at : FinMap nat_cmp Home → ℕ → Home
+home_at homes line = unwrap_or (get homes line) (fresh zero_line)
 
--- the slice with a line's step made
-abbrev pub with_home : Slice → ℕ → Home → Slice
-with_home s line h = record s { homes = insert s.homes line h }
+-- the lines with another home of one
+abbrev pub with_home : FinMap nat_cmp Home → ℕ → Home → FinMap nat_cmp Home
+with_home homes line h = insert homes line h
 
-abbrev pub after_step : Slice → ℕ → Option Step → Slice
-after_step s line None = s
-after_step s line (Some step) = with_home s line step.home
-
-abbrev pub mail_of : Option Step → Mail
-mail_of None = []
-mail_of (Some step) = step.mail
-
--- what a call answers: Ok with the step made and its messages sent, where the slice isn't spent; after want of
--- memory the slice is spent, and nothing is said of what was sent
-abbrev pub Answers : Result (Unit {0}) NoMemory → Slice → Slice → Mail → Mail → ℕ → Option Step → Type 0
-Answers (Ok done) old new out_old out_new line step =
-    (old.spent ≡ false) × (new ≡ after_step old line step) × (out_new ≡ out_old ++ mail_of step)
-Answers (Err e) old new out_old out_new line step = new.spent ≡ true
+-- the lines after a step of one, if one was made
+abbrev pub after_step : FinMap nat_cmp Home → ℕ → Option Step → FinMap nat_cmp Home
+after_step homes line None = homes
+after_step homes line (Some step) = with_home homes line step.home
 
 -- the lines that have a byte of a segment's file
 abbrev pub file_lines : Segment → List ℕ
@@ -128,11 +130,25 @@ file_lines s =
 abbrev pub homed_lines : Setup → ℕ → List ℕ
 homed_lines w tile = filter (λ line. home_of w.config line == tile) (flat_map file_lines w.image.segments)
 
--- a slice before the program runs: each line has what the image gives it
-unfoldable pub start_slice : Setup → ℕ → Slice
-start_slice w tile = record {
-  tile = tile;
-  tiles = w.config.tiles;
-  homes = from_entries (map (λ line. (line, fresh (initial_line w line))) (homed_lines w tile));
-  spent = false;
-}
+-- a tile's lines before the program runs: those of the image's files, each with what the image gives it
+unfoldable pub start_homes : Setup → ℕ → FinMap nat_cmp Home
+start_homes w tile = from_entries (map (λ line. (line, fresh (initial_line w line))) (homed_lines w tile))
+
+-- a slice: its tile, how many tiles the machine has, the lines that it knows, and whether it is spent, as it is once
+-- memory ran out in a call
+pub record Slice : Type 0 where
+  pub tile : ℕ
+  pub tiles : ℕ
+  pub homes : FinMap nat_cmp Home
+  pub spent : Bool
+
+-- a slice before the program runs
+abbrev pub start_slice : Setup → ℕ → Slice
+start_slice w tile = record { tile = tile; tiles = w.config.tiles; homes = start_homes w tile; spent = false }
+
+-- what a call answers: Ok with the step made and its messages sent, where the slice isn't spent; after want of
+-- memory the slice is spent but still of its tile, and nothing is said of what was sent
+abbrev pub Answers : Result (Unit {0}) NoMemory → Slice → Slice → Mail → Mail → ℕ → Option Step → Type 0
+Answers (Ok done) old new out_old out_new line step =
+    (old.spent ≡ false) × (new ≡ record old { homes = after_step old.homes line step }) × (out_new ≡ out_old ++ mail_of step)
+Answers (Err e) old new out_old out_new line step = (new.spent ≡ true) × (new.tile ≡ old.tile) × (new.tiles ≡ old.tiles)

@@ -1,13 +1,8 @@
 pub mod Line
 pub mod Directory
-pub mod Received
-pub mod Rows
-pub mod Next
-pub mod Nodes
-pub mod Made
-pub mod Start
-pub mod Answers
-pub mod Codes
+pub mod Laws
+pub mod Inner
 pub use Rattle.elf_image.specs.Layout
 pub use Rattle.mesh_model.specs.Mesh
 pub use Rattle.mesh_model.specs.Cost
+pub use Rattle.wire_msg.specs.Message

@@ -3,9 +3,21 @@
 -- a home keeps the one that was fixed when its last transaction began, and every line of data goes out with it.
 use Rattle.std.specs.Prelude.{ℕ, ◌==◌, not, Bool, true, false, nat_lt, List, [], ◌∷◌, map, filter, if◌then◌else◌, Option, Some, None}
 use Rattle.sim_base.specs.declared.lines.LineData.{LineData}
-use Rattle.dir_slice.specs.declared.states.State.{State}
-use Rattle.dir_slice.specs.declared.states.State.TheVariants.{Uncached, Shared, Modified, BusyInv, BusyFetch}
-use Rattle.dir_slice.specs.declared.states.Request.{Request}
+
+-- a request for a line: the node that asks, and whether it asks to write or only to read
+pub record Request : Type 0 where
+  pub from : ℕ
+  pub write : Bool
+
+-- who holds a line, and which transaction is under way: nobody; these nodes, to read; one node, to write; a writer
+-- waits until the rest of these nodes have dropped their copies; a reader or (true) a writer waits until the owner,
+-- named last, has shared the line or given it up
+pub data State : Type 0 where
+  Uncached : State
+  Shared : List ℕ → State
+  Modified : ℕ → State
+  BusyInv : ℕ → List ℕ → State
+  BusyFetch : Bool → ℕ → ℕ → State
 
 -- sets of nodes
 
@@ -51,13 +63,13 @@ abbrev pub invalidate : ℕ → List ℕ → Row
 invalidate r [] = given (Modified r) true r
 invalidate r (x ∷ xs) = record { state = BusyInv r (x ∷ xs); sent = map drop_copy (x ∷ xs) }
 
-abbrev pub serve : State → Bool → ℕ → Row
-serve Uncached false r = given (Shared (r ∷ [])) false r
-serve Uncached true r = given (Modified r) true r
-serve (Shared sharers) false r = given (Shared (with_node r sharers)) false r
-serve (Shared sharers) true r = invalidate r (without r sharers)
-serve (Modified owner) write r = record { state = BusyFetch write r owner; sent = fetch write owner ∷ [] }
-serve busy write r = same busy
+abbrev pub request_row : State → Bool → ℕ → Row
+request_row Uncached false r = given (Shared (r ∷ [])) false r
+request_row Uncached true r = given (Modified r) true r
+request_row (Shared sharers) false r = given (Shared (with_node r sharers)) false r
+request_row (Shared sharers) true r = invalidate r (without r sharers)
+request_row (Modified owner) write r = record { state = BusyFetch write r owner; sent = fetch write owner ∷ [] }
+request_row busy write r = same busy
 
 -- the rows for answers; none where the table has no row
 
@@ -66,28 +78,28 @@ abbrev pub acked_by : ℕ → List ℕ → Row
 acked_by r [] = given (Modified r) true r
 acked_by r (x ∷ xs) = same (BusyInv r (x ∷ xs))
 
-abbrev pub acked : State → ℕ → Option Row
-acked (BusyInv r left) s = Some (acked_by r (without s left))
-acked _ s = None
+abbrev pub ack_row : State → ℕ → Option Row
+ack_row (BusyInv r left) s = Some (acked_by r (without s left))
+ack_row _ s = None
 
 -- the owner answers a fetch: a reader shares the line with it, a writer gets it alone
 abbrev pub fetched_by : Bool → ℕ → ℕ → Row
 fetched_by false r owner = given (Shared (with_node r (owner ∷ []))) false r
 fetched_by true r owner = given (Modified r) true r
 
-abbrev pub fetched : State → ℕ → Option Row
-fetched (BusyFetch write r owner) s = if s == owner then Some (fetched_by write r owner) else None
-fetched _ s = None
+abbrev pub fetch_row : State → ℕ → Option Row
+fetch_row (BusyFetch write r owner) s = if s == owner then Some (fetched_by write r owner) else None
+fetch_row _ s = None
 
 -- the owner gives the line up by itself, perhaps while it is asked for it
 abbrev pub put_by : Bool → ℕ → Row
 put_by false r = given (Shared (r ∷ [])) false r
 put_by true r = given (Modified r) true r
 
-abbrev pub put : State → ℕ → Option Row
-put (Modified owner) s = if s == owner then Some (same Uncached) else None
-put (BusyFetch write r owner) s = if s == owner then Some (put_by write r) else None
-put _ s = None
+abbrev pub put_row : State → ℕ → Option Row
+put_row (Modified owner) s = if s == owner then Some (same Uncached) else None
+put_row (BusyFetch write r owner) s = if s == owner then Some (put_by write r) else None
+put_row _ s = None
 
 -- the nodes that the state waits for, which have to give up or share the line
 abbrev pub awaited : State → List ℕ

@@ -1,8 +1,9 @@
 ghost use Rattle.std.specs.Prelude.{◌≡◌, ◌<◌, ◌≤◌, Some, false, true, IfOk, OnErr};
-ghost use Rattle.dir_slice.specs.Directory.{Answers, home_at, start_slice, requested, acknowledged, fetch_answered, given_up};
-ghost use Rattle.dir_slice.specs.Answers.{answered};
+ghost use Rattle.dir_slice.specs.Directory.{Answers, home_at, start_slice, reaction};
+ghost use Rattle.dir_slice.specs.Inner.{up_of_answer};
 ghost use Rattle.sim_base.specs.Numbering.{home_of};
 ghost use Rattle.sim_base.specs.Settings.{IsChecked};
+ghost use Rattle.wire_msg.specs.Message.{asks, acknowledges, answers, gives_up};
 
 use crate::home::{Answer, Home, Site};
 use crate::homes::{Homes, zero_line};
@@ -28,9 +29,8 @@ pub struct Dir {
 }
 
 impl Model for Dir {
-    ghost use Rattle.dir_slice.specs.Codes.{slice_code};
+    ghost use Rattle.dir_slice.specs.Inner.{slice_code, AreWithin};
     ghost use Rattle.dir_slice.specs.Directory.{Slice};
-    ghost use Rattle.dir_slice.specs.Nodes.{AreWithin};
 
     ghost Value = { Slice };
 
@@ -57,9 +57,10 @@ impl Dir {
         })
     }
 
-    /// The 64 bytes of a line in the home's memory. A line that nobody holds in M has its newest bytes there.
+    /// The 64 bytes that the home itself has of a line. They may be older than those of a tile that holds the line in
+    /// M, or of a message that is on its way to the home.
     pub fn memory(&self, line: Line) -> LineData
-        ensures { result ≡ (home_at self.now line).memory }
+        ensures { result ≡ (home_at self.now.homes line).memory }
     {
         match self.homes.get(line) {
             Some(home) => home.memory(),
@@ -84,7 +85,7 @@ impl Dir {
         requires home { home_of config.now line ≡ self.old.tile }
         requires from_in_range { from ≤ config.now.tiles }
         ensures { Answers result self.old self.new out.old.items out.new.items line
-            (Some (requested config.now self.old.tile line (home_at self.old line) (record { from = from; write = write }))) }
+            (reaction config.now self.old.tile line (home_at self.old.homes line) from (asks write)) }
     {
         self.begin()?;
         let site = Site {
@@ -114,7 +115,7 @@ impl Dir {
         requires same_machine { config.now.tiles ≡ self.old.tiles }
         requires home { home_of config.now line ≡ self.old.tile }
         ensures { Answers result self.old self.new out.old.items out.new.items line
-            (acknowledged config.now self.old.tile line (home_at self.old line) from) }
+            (reaction config.now self.old.tile line (home_at self.old.homes line) from acknowledges) }
     {
         self.answer(alloc, config, from, line, Answer::Dropped, out)
     }
@@ -134,7 +135,7 @@ impl Dir {
         requires same_machine { config.now.tiles ≡ self.old.tiles }
         requires home { home_of config.now line ≡ self.old.tile }
         ensures { Answers result self.old self.new out.old.items out.new.items line
-            (fetch_answered config.now self.old.tile line (home_at self.old line) from content.now) }
+            (reaction config.now self.old.tile line (home_at self.old.homes line) from (answers content.now)) }
     {
         let answer = Answer::Fetched { content: *content };
         self.answer(alloc, config, from, line, answer, out)
@@ -155,7 +156,7 @@ impl Dir {
         requires same_machine { config.now.tiles ≡ self.old.tiles }
         requires home { home_of config.now line ≡ self.old.tile }
         ensures { Answers result self.old self.new out.old.items out.new.items line
-            (given_up config.now self.old.tile line (home_at self.old line) from content.now) }
+            (reaction config.now self.old.tile line (home_at self.old.homes line) from (gives_up content.now)) }
     {
         let answer = Answer::GivenUp { content: *content };
         self.answer(alloc, config, from, line, answer, out)
@@ -175,7 +176,7 @@ impl Dir {
         requires same_machine { config.now.tiles ≡ self.old.tiles }
         requires home { home_of config.now line ≡ self.old.tile }
         ensures { Answers result self.old self.new out.old.items out.new.items line
-            (answered config.now self.old.tile line (home_at self.old line) from answer) }
+            (reaction config.now self.old.tile line (home_at self.old.homes line) from (up_of_answer answer)) }
     {
         self.begin()?;
         let Some(mut home) = self.homes.take(alloc, line) else {
@@ -196,7 +197,7 @@ impl Dir {
     /// A call begins, unless the slice is spent. It is spent until the call ends.
     fn begin(&mut self) -> Result<(), NoMemory>
         ensures ok { IfOk result (λ _. (self.old.spent ≡ false) × (self.new ≡ record self.old { spent = true })) }
-        ensures err { OnErr result (self.new.spent ≡ true) }
+        ensures err { OnErr result ((self.new ≡ self.old) × (self.old.spent ≡ true)) }
     {
         if self.spent {
             return Err(NoMemory);

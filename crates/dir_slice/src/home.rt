@@ -1,9 +1,7 @@
 ghost use Rattle.std.specs.Prelude.{◌≡◌, ◌≤◌, ◌++◌, IfOk, map, if◌then◌else◌};
-ghost use Rattle.dir_slice.specs.Answers.{answered};
-ghost use Rattle.dir_slice.specs.Directory.{in_row, served, settled, requested, acknowledged, fetch_answered, given_up};
-ghost use Rattle.dir_slice.specs.Line.{fresh, awaited};
-ghost use Rattle.dir_slice.specs.Made.{IsMade, IsMadeIfAny, IsFollowed};
-ghost use Rattle.dir_slice.specs.Nodes.{IsSite, IsWithin, NextIsWithin};
+ghost use Rattle.dir_slice.specs.Directory.{in_row, taken_up, settled, requested, acknowledged, fetch_answered, given_up, reaction};
+ghost use Rattle.dir_slice.specs.Inner.{state_of, up_of_answer, IsMade, IsMadeIfAny, IsFollowed, IsSite, IsWithin, NextIsWithin};
+ghost use Rattle.dir_slice.specs.Line.{Uncached, fresh, awaited};
 
 use crate::rows::{Next, Row, Sends};
 use crate::states::{Request, State, farthest};
@@ -48,7 +46,9 @@ impl Model for Home {
 
     ghost Value = { Home };
 
-    ghost view = { λ h. record { state = h.state; memory = h.memory; waiting = h.waiting.items; delay = h.delay } };
+    ghost use Rattle.dir_slice.specs.Inner.{state_of};
+
+    ghost view = { λ h. record { state = state_of h.state; memory = h.memory; waiting = h.waiting.items; delay = h.delay } };
 }
 
 impl Home {
@@ -71,7 +71,7 @@ impl Home {
         self.memory
     }
 
-    /// A request waits, and is served at once where nothing is under way.
+    /// A request waits, and is taken up at once where nothing is under way.
     pub(crate) fn request(
         &mut self,
         alloc: Global,
@@ -99,7 +99,7 @@ impl Home {
     ) -> Result<(), NoMemory>
         requires site { IsSite site.config.now site.tile }
         requires within { IsWithin site.config.now.tiles self.old }
-        ensures { IfOk result (λ _. IsMadeIfAny (answered site.entry.config.now site.entry.tile site.entry.line self.old from answer) self.old self.new out.old.items out.new.items) }
+        ensures { IfOk result (λ _. IsMadeIfAny (reaction site.entry.config.now site.entry.tile site.entry.line self.old from (up_of_answer answer)) self.old self.new out.old.items out.new.items) }
     {
         match answer {
             Answer::Dropped => self.ack(alloc, site, from, out),
@@ -161,14 +161,14 @@ impl Home {
 
     /// Takes the state out, and leaves another for the while.
     fn take_state(&mut self) -> State
-        ensures state { result ≡ self.old.state }
-        ensures after { self.new ≡ record self.old { state = State.Uncached } }
+        ensures state { state_of result ≡ self.old.state }
+        ensures after { self.new ≡ record self.old { state = Uncached } }
     {
         mem::replace(&mut self.state, State::Uncached)
     }
 
     /// Goes the way of a row, if there is one, with what the memory has from then on. Then the waiting requests
-    /// are served.
+    /// are taken up.
     fn follow(
         &mut self,
         alloc: Global,
@@ -194,7 +194,7 @@ impl Home {
         }
     }
 
-    /// Serves the waiting requests in order, until a transaction is under way or none is left.
+    /// Takes the waiting requests up in order, until a transaction is under way or none is left.
     fn settle(&mut self, alloc: Global, site: Site<'_>, out: &mut Out) -> Result<(), NoMemory>
         requires site { IsSite site.config.now site.tile }
         requires within { IsWithin site.config.now.tiles self.old }
@@ -204,13 +204,13 @@ impl Home {
             let Some(request) = self.waiting.pop_front() else {
                 break 'requests;
             };
-            self.serve(alloc, site, request, out)?;
+            self.take_up(alloc, site, request, out)?;
         }
         Ok(())
     }
 
-    /// Serves a request. A transaction begins, and fixes the delay.
-    fn serve(
+    /// Takes a request up. A transaction begins, and fixes the delay.
+    fn take_up(
         &mut self,
         alloc: Global,
         site: Site<'_>,
@@ -220,7 +220,7 @@ impl Home {
         requires site { IsSite site.config.now site.tile }
         requires within { IsWithin site.config.now.tiles self.old }
         requires from_in_range { request.from ≤ site.config.now.tiles }
-        ensures { IfOk result (λ _. IsMade (served site.entry.config.now site.entry.tile site.entry.line self.old request) self.new out.old.items out.new.items) }
+        ensures { IfOk result (λ _. IsMade (taken_up site.entry.config.now site.entry.tile site.entry.line self.old request) self.new out.old.items out.new.items) }
     {
         let row = self.take_state().serve(alloc, request)?;
         let remote = farthest(site.config, site.tile, row.state.awaited());

@@ -1,10 +1,9 @@
 ghost use Rattle.std.specs.Prelude.{◌≡◌, ◌==◌, None, IfOk, OnErr};
 ghost use Rattle.std.specs.FinMap as map;
 ghost use Rattle.std.specs.Option.{option_copied};
-ghost use Rattle.dir_slice.specs.Directory.{zero_line, file_lines, start_slice};
+ghost use Rattle.dir_slice.specs.Directory.{zero_line, file_lines, start_homes};
+ghost use Rattle.dir_slice.specs.Inner.{without_home, has, PutsLines};
 ghost use Rattle.dir_slice.specs.Line.{fresh};
-ghost use Rattle.dir_slice.specs.Made.{without_home};
-ghost use Rattle.dir_slice.specs.Start.{has, PutsLines};
 ghost use Rattle.elf_image.specs.Image.{IsSegment};
 
 use crate::home::Home;
@@ -36,7 +35,7 @@ impl Model for Homes {
     ghost use Rattle.std.specs.Coded.{coded_ℕ};
     ghost use Rattle.std.specs.FinMap as map;
     ghost use Rattle.std.specs.Ordering.{nat_cmp};
-    ghost use Rattle.dir_slice.specs.Codes.{home_code};
+    ghost use Rattle.dir_slice.specs.Inner.{home_code};
     ghost use Rattle.dir_slice.specs.Line.{Home};
 
     ghost Value = { map.FinMap nat_cmp Home };
@@ -58,7 +57,7 @@ impl Homes {
 
     /// The lines of a tile before the program runs.
     pub(crate) fn start(alloc: Global, world: &World, tile: NodeId) -> Result<Homes, NoMemory>
-        ensures { IfOk result (λ homes. homes ≡ (start_slice world.now tile).homes) }
+        ensures { IfOk result (λ homes. homes ≡ start_homes world.now tile) }
     {
         let mut homes = Homes::new(alloc);
         for segment in world.image().segments() {

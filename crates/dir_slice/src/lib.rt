@@ -12,7 +12,9 @@ mod sharers;
 mod states;
 
 pub use directory::Dir;
-pub use laws::{starts_as_the_image, stays_orderly};
+pub use laws::{
+    fresh_is_orderly, keeps_orderly, one_line_changes, starts_as_the_image, stays_orderly,
+};
 
 #[cfg(test)]
 mod tests;

@@ -1,6 +1,6 @@
 ghost use Rattle.std.specs.Prelude.{◌≡◌, true, IfOk};
-ghost use Rattle.dir_slice.specs.Line.{serve, invalidate, acked, acked_by, fetched, fetched_by, put, put_by, given, same};
-ghost use Rattle.dir_slice.specs.Next.{IsNext};
+ghost use Rattle.dir_slice.specs.Inner.{state_of, IsNext};
+ghost use Rattle.dir_slice.specs.Line.{Shared, Modified, request_row, invalidate, ack_row, acked_by, fetch_row, fetched_by, put_row, put_by, given, same};
 
 use crate::sharers::Sharers;
 use crate::states::{Request, State};
@@ -33,15 +33,15 @@ impl Model for Row {
 
     ghost Value = { Row };
 
-    ghost use Rattle.dir_slice.specs.Rows.{sent_of};
+    ghost use Rattle.dir_slice.specs.Inner.{state_of, sent_of};
 
-    ghost view = { λ r. record { state = r.state; sent = sent_of r.state r.sends } };
+    ghost view = { λ r. record { state = state_of r.state; sent = sent_of (state_of r.state) r.sends } };
 }
 
 impl Row {
     /// The state stays, and nothing is sent.
     fn same(state: State) -> Row
-        ensures { result ≡ same state }
+        ensures { result ≡ same (state_of state) }
     {
         Row {
             state,
@@ -51,7 +51,7 @@ impl Row {
 
     /// The line goes to a reader or to a writer.
     fn given(state: State, write: bool, to: NodeId) -> Row
-        ensures { result ≡ given state write to }
+        ensures { result ≡ given (state_of state) write to }
     {
         Row {
             state,
@@ -72,7 +72,7 @@ pub(crate) enum Next {
 impl State {
     /// The row for a request, which is served while no transaction is under way.
     pub(crate) fn serve(self, alloc: Global, request: Request) -> Result<Row, NoMemory>
-        ensures { IfOk result (λ row. row ≡ serve self request.write request.from) }
+        ensures { IfOk result (λ row. row ≡ request_row (state_of self) request.write request.from) }
     {
         match self {
             State::Uncached => grant(alloc, request.write, request.from),
@@ -84,7 +84,7 @@ impl State {
 
     /// The row for an answer to an `Inv`: a copy was dropped.
     pub(crate) fn acked(self, from: NodeId) -> Next
-        ensures { IsNext result self (acked self from) }
+        ensures { IsNext result (state_of self) (ack_row (state_of self) from) }
     {
         match self {
             State::BusyInv {
@@ -100,7 +100,7 @@ impl State {
 
     /// The row for the owner's answer to a fetch.
     pub(crate) fn fetched(self, alloc: Global, from: NodeId) -> Result<Next, NoMemory>
-        ensures { IfOk result (λ next. IsNext next self (fetched self from)) }
+        ensures { IfOk result (λ next. IsNext next (state_of self) (fetch_row (state_of self) from)) }
     {
         match self {
             State::BusyFetch {
@@ -114,7 +114,7 @@ impl State {
 
     /// The row for an owner that gives the line up by itself, perhaps while it is asked for it.
     pub(crate) fn put(self, alloc: Global, from: NodeId) -> Result<Next, NoMemory>
-        ensures { IfOk result (λ next. IsNext next self (put self from)) }
+        ensures { IfOk result (λ next. IsNext next (state_of self) (put_row (state_of self) from)) }
     {
         match self {
             State::Modified { owner } if owner == from => Ok(Next::ByRow(Row::same(
@@ -143,14 +143,14 @@ fn grant(alloc: Global, write: bool, to: NodeId) -> Result<Row, NoMemory>
 
 /// A writer gets the line alone.
 fn granted_alone(to: NodeId) -> Row
-    ensures { result ≡ given (State.Modified to) true to }
+    ensures { result ≡ given (Modified to) true to }
 {
     Row::given(State::Modified { owner: to }, true, to)
 }
 
 /// A request for a line that is held to read: the others drop their copies before a writer gets the line.
 fn serve_shared(mut sharers: Sharers, request: Request) -> Result<Row, NoMemory>
-    ensures { IfOk result (λ row. row ≡ serve (State.Shared sharers) request.write request.from) }
+    ensures { IfOk result (λ row. row ≡ request_row (Shared sharers) request.write request.from) }
 {
     let node = request.from;
     if request.write {
@@ -187,7 +187,7 @@ fn acked_by(requester: NodeId, left: Sharers) -> Row
 
 /// The owner is asked for the line.
 fn fetch(owner: NodeId, request: Request) -> Row
-    ensures { result ≡ serve (State.Modified owner) request.write request.from }
+    ensures { result ≡ request_row (Modified owner) request.write request.from }
 {
     Row {
         state: State::BusyFetch {

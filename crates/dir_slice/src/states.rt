@@ -1,11 +1,12 @@
 ghost use Rattle.std.specs.Prelude.{◌≡◌, ◌<◌, ◌≤◌, All, IsTrue, ◌↔◌};
 ghost use Rattle.dir_slice.specs.Directory.{farthest};
 ghost use Rattle.dir_slice.specs.Line.{awaited, is_busy};
-ghost use Rattle.dir_slice.specs.Nodes.{IsSite};
+ghost use Rattle.dir_slice.specs.Inner.{state_of, IsSite};
 
 use crate::sharers::Sharers;
 use mesh_model::hops;
 use sim_base::{Config, NodeId};
+use std::marker::Model;
 use std::slice;
 
 /// A request for a line, which waits until its turn comes.
@@ -15,6 +16,16 @@ pub(crate) struct Request {
     pub(crate) from: NodeId,
     /// Whether it asks to write, or only to read.
     pub(crate) write: bool,
+}
+
+impl Model for Request {
+    ghost use Rattle.dir_slice.specs.Line.{Request};
+
+    ghost Value = { Request };
+
+    ghost view = { λ q. record { from = q.from; write = q.write } };
+
+    ghost inverse = { λ q. record { from = q.from; write = q.write } };
 }
 
 /// Who holds a line, as its home knows, and which transaction is under way.
@@ -46,7 +57,7 @@ pub(crate) enum State {
 impl State {
     /// Whether a transaction is under way.
     pub(crate) fn is_busy(&self) -> bool
-        ensures { result ≡ is_busy self.now }
+        ensures { result ≡ is_busy (state_of self.now) }
     {
         match self {
             State::BusyInv { .. } | State::BusyFetch { .. } => true,
@@ -56,7 +67,7 @@ impl State {
 
     /// The nodes that the state waits for, which have to share the line or give it up.
     pub(crate) fn awaited(&self) -> &[NodeId]
-        ensures { result.now ≡ awaited self.now }
+        ensures { result.now ≡ awaited (state_of self.now) }
     {
         match self {
             State::BusyInv { left, .. } => left.as_slice(),

@@ -1,8 +1,8 @@
 -- The home that was put back makes the slice after the step.
 use Rattle.std.proofs.Common.{ap, sym, ◌∙◌}
 use Rattle.std.specs.FinMap.{insert}
-use Rattle.dir_slice.specs.Directory.{Slice}
-use Rattle.dir_slice.specs.Answers.{answered}
+use Rattle.dir_slice.specs.Directory.{Slice, reaction}
+use Rattle.dir_slice.specs.Inner.{up_of_answer}
 use Rattle.dir_slice.proofs.Slices.{without_within, put_within, answer_within, answer_made}
 use Rattle.dir_slice.proofs.directory.Dir.answer.Goals as goal
 
@@ -23,6 +23,6 @@ invariant_of-self-2 c =
 pub returns : goal.returns
 returns c =
     let now : Slice = record { tile = c.self.inside.tile; tiles = c.self.inside.tiles; homes = c.self.inside.homes; spent = c.self.inside.spent } in
-    answer_made (λ tile h. answered c.args.config.now tile c.args.line h c.args.from c.args.answer) c.args.self.now now c.args.line c.in-Some.home c.answer.new.self c.put.new.self c.args.out.now.items
+    answer_made (λ tile h. reaction c.args.config.now tile c.args.line h c.args.from (up_of_answer c.args.answer)) c.args.self.now now c.args.line c.in-Some.home c.answer.new.self c.put.new.self c.args.out.now.items
     c.answer.new.out.items c.in_ok-begin.ensures.ok.0 (c.self.view_is ∙ c.in_ok-begin.ensures.ok.1) c.in-Some.ensures.home
     (c.in_ok-put.ensures.ok ∙ ap (λ homes. insert homes c.args.line c.answer.new.self) c.in-Some.ensures.after) c.in_ok-answer.ensures

@@ -1,6 +1,5 @@
 -- The slice of the start knows nobody yet.
 use Rattle.std.proofs.Common.{refl}
-use Rattle.dir_slice.specs.Directory.{start_slice}
 use Rattle.dir_slice.proofs.Starts.{start_within}
 use Rattle.dir_slice.proofs.directory.Dir.new.Goals as goal
 
@@ -8,5 +7,4 @@ pub invariant_of-result : goal.invariant_of-result
 invariant_of-result c = start_within c.args.world.now c.args.tile c.config.result.now.tiles c.in_ok-homes.homes c.in_ok-homes.ensures
 
 pub returns : goal.returns
-unfolding start_slice
 returns c = rw (c.in_ok-homes.ensures, c.config.ensures.value) refl

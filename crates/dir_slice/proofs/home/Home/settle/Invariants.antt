@@ -1,9 +1,9 @@
 use Rattle.std.proofs.Common.{length}
-use Rattle.dir_slice.specs.Nodes.{IsWithin}
+use Rattle.dir_slice.specs.Inner.{IsWithin}
 use Rattle.dir_slice.proofs.Settling.{IsLeft}
 use Rattle.dir_slice.proofs.home.Home.settle.Given as goal
 
--- what is left to serve makes, after what was sent, what was to be made
+-- what is left to take up makes, after what was sent, what was to be made
 abbrev pub invariant-requests : goal.invariant-requests
 invariant-requests l = record {
   within : IsWithin l.site.config.now.tiles l.self;

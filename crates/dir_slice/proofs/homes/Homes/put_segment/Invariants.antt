@@ -1,6 +1,6 @@
 use Rattle.std.proofs.Common.{◌&&◌}
 use Rattle.std.specs.Prelude.{nat_le, nat_lt}
-use Rattle.dir_slice.specs.Start.{PutsLines}
+use Rattle.dir_slice.specs.Inner.{PutsLines}
 use Rattle.dir_slice.proofs.homes.Homes.put_segment.Given as goal
 
 -- those from the first on, so far

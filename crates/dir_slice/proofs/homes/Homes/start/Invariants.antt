@@ -1,8 +1,8 @@
 use Rattle.std.proofs.Common.{take}
 use Rattle.std.specs.List.{flat_map}
 use Rattle.std.specs.FinMap.{empty}
+use Rattle.dir_slice.specs.Inner.{has, PutsLines}
 use Rattle.dir_slice.specs.Directory.{file_lines}
-use Rattle.dir_slice.specs.Start.{has, PutsLines}
 use Rattle.dir_slice.proofs.homes.Homes.start.Given as goal
 
 -- those of the segments so far

@@ -1,0 +1,6 @@
+use Rattle.std.proofs.Common.{◌≡◌}
+use Rattle.dir_slice.proofs.tests.goes_as.Given as goal
+
+-- it is the same slice
+abbrev pub invariant-loop-told : goal.invariant-loop-told
+invariant-loop-told l = (l.dir.tile ≡ 3) × (l.dir.tiles ≡ 4)

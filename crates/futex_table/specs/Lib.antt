@@ -1,0 +1,3 @@
+pub mod Entries
+pub use Rattle.serving.specs.ControlData
+pub use Rattle.serving.specs.Wake
