@@ -4,6 +4,8 @@ pub mod Sizes
 pub mod Stacks
 pub mod Ranges
 pub mod Loads
+pub mod Programs
+pub mod LawLemmas
 pub mod Refusals
 pub mod Accepted
 pub mod Written

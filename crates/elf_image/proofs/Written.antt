@@ -1,11 +1,10 @@
 -- What is read from the file of a program is that program.
-use Rattle.std.proofs.Common.{◌≡◌, ◌+◌, ◌*◌, ◌%◌, ◌^◌, ◌≤◌, ◌<◌, ◌&&◌, ◌==◌, ◌++◌, ℕ, true, false, List, [], ◌∷◌, All, length, map, filter, drop, sum_by, arith, refl, subst, ap, ◌∙◌, sym, nat_lt, Option, None, Ok, inl, inr}
+use Rattle.std.proofs.Common.{◌≡◌, ◌+◌, ◌*◌, ◌%◌, ◌^◌, ◌≤◌, ◌<◌, ◌&&◌, ◌==◌, ◌++◌, ℕ, true, false, List, [], ◌∷◌, All, length, map, filter, drop, sum_by, replicate, arith, refl, subst, ap, ◌∙◌, sym, Option, None, Ok, inl, inr}
 use Rattle.std.specs.List.{list_any, range_with_len, flat_map}
 use Rattle.std.proofs.lemmas.Bool.{cases_lt, le-ltb, both_ways, false≢true}
 use Rattle.std.proofs.lemmas.Bool.Decides.{nat_tests}
 use Rattle.std.proofs.lemmas.List.{length-append, append_assoc, drop-drop}
-use Rattle.std.proofs.lemmas.List.Elements.{All-tail, All-weaker}
-use Rattle.std.proofs.lemmas.List.Folds.{list_any_none}
+use Rattle.std.proofs.lemmas.List.Elements.{All-tail}
 use Rattle.std.proofs.lemmas.List.Sums.{sum_by-cons}
 use Rattle.std.proofs.lemmas.List.Concat.{length-flat_map}
 use Rattle.std.proofs.Math.Seq.{take-append_seam, drop-append_seam}
@@ -15,8 +14,9 @@ use Rattle.elf_image.specs.declared.program.Segment.{Segment}
 use Rattle.elf_image.specs.declared.headers.ProgramHeader.{ProgramHeader}
 use Rattle.elf_image.specs.declared.refusal.ImageFault.{ImageFault}
 use Rattle.elf_image.specs.Header.{headers, header_from, loads, class, data_encoding, ident_version, e_type, e_machine, e_entry, e_phoff, e_phentsize, e_phnum}
-use Rattle.elf_image.specs.Image.{Program, program, image_of, refused_or, first_fault, first_of, header_refusals, table_refusals, program_refusals, segment_of, segment_end, holds, grants_write, grants_execute, some_executes, IsSegment, IsProgram, has_wrong_size, has_wrong_table, has_wrong_headers, has_wrong_magic, has_wrong_class, has_wrong_kind, has_wrong_machine, has_kind, reaches_too_far, overlaps, has_write_exec, has_wrong_entry}
+use Rattle.elf_image.specs.Image.{Program, program, image_of, refused_or, first_fault, first_of, header_refusals, table_refusals, program_refusals, segment_of, segment_end, holds, grants_execute, some_executes, IsSegment, IsProgram, has_wrong_size, has_wrong_table, has_wrong_headers, has_wrong_magic, has_wrong_class, has_wrong_kind, has_wrong_machine, has_kind}
 use Rattle.elf_image.proofs.Ranges.{none_has}
+use Rattle.elf_image.proofs.Programs.{program_passes}
 use Rattle.elf_image.specs.File.{ident_bytes, header_bytes, segment_header, table_bytes, file_size, file_of}
 
 -- the header that is written for a segment, and those for segments one after the other
@@ -184,21 +184,6 @@ no_kind : (bytes : List ℕ) (kind at : ℕ) (segments : List Segment) → heade
 unfolding has_kind
 no_kind bytes kind at segments same other = rw same (made_kind kind at segments other)
 
-reach_right : (p : Program) → IsProgram p → reaches_too_far p.segments ≡ false
-unfolding reaches_too_far
-reach_right p is =
-    let ends = list_any_none (λ s. nat_lt (2 ^ 32) (segment_end s)) p.segments (All-weaker IsSegment (λ s. nat_lt (2 ^ 32) (segment_end s) ≡ false) (λ s e. le-ltb (2 ^ 32) (segment_end s) e.low_end) p.segments is.each) in
-    rw (ends, le-ltb 268435456 (sum_by (λ s. s.memsz) p.segments) is.size)
-
-exec_right : (p : Program) → IsProgram p → has_write_exec p.segments ≡ false
-unfolding has_write_exec
-exec_right p is =
-    list_any_none (λ s. grants_write s && grants_execute s) p.segments (All-weaker IsSegment (λ s. (grants_write s && grants_execute s) ≡ false) (λ s e. e.not_both) p.segments is.each)
-
-entry_right : (p : Program) → IsProgram p → has_wrong_entry p ≡ false
-unfolding has_wrong_entry
-entry_right p is = rw (is.aligned, is.entered)
-
 some_segment : (segments : List Segment) (address : ℕ) → list_any (λ s. grants_execute s && holds s address) segments ≡ true → 0 < length segments
 some_segment [] address e = absurd (false≢true e)
 some_segment (s ∷ segments) address e = omega arith
@@ -212,15 +197,12 @@ low_entry p is = elim (cases_lt p.entry (2 ^ 32)) [
 accepted : (bytes : List ℕ) (p : Program) (at : ℕ) → IsProgram p → Fields bytes p.entry (length p.segments) → has_wrong_magic bytes ≡ false →
     length bytes ≤ 16777216 → 64 + 56 * length p.segments ≤ length bytes → at + sum_by (λ s. length s.bytes) p.segments ≤ length bytes →
     headers bytes ≡ made at p.segments → program bytes ≡ p → first_fault bytes ≡ None
-unfolding first_of header_refusals table_refusals program_refusals
+unfolding first_of header_refusals table_refusals
 accepted bytes p at is f magic short room whole same held =
     let loaded : loads bytes ≡ made at p.segments = ap (filter (λ h. h.kind == 1)) same ∙ made_loads at p.segments in
     let table = table_right bytes p.entry (length p.segments) f (some_segment p.segments p.entry is.entered) is.few room in
     let sized = headers_right bytes at p.segments table loaded is.each whole in
-    let reach : reaches_too_far (program bytes).segments ≡ false = ap (λ (q : Program). reaches_too_far q.segments) held ∙ reach_right p is in
-    let apart : overlaps (program bytes).segments ≡ false = ap (λ (q : Program). overlaps q.segments) held ∙ is.apart in
-    let exec : has_write_exec (program bytes).segments ≡ false = ap (λ (q : Program). has_write_exec q.segments) held ∙ exec_right p is in
-    let entry : has_wrong_entry (program bytes) ≡ false = ap (λ (q : Program). has_wrong_entry q) held ∙ entry_right p is in
+    let held_none : first_of program_refusals (program bytes) ≡ None = ap (λ (q : Program). first_of program_refusals q) held ∙ program_passes p is in
     rw (
       le-ltb 16777216 (length bytes) short,
       le-ltb (length bytes) 64 (omega arith),
@@ -232,10 +214,7 @@ accepted bytes p at is f magic short room whole same held =
       no_kind bytes 2 at p.segments same refl,
       no_kind bytes 3 at p.segments same refl,
       no_kind bytes 7 at p.segments same refl,
-      reach,
-      apart,
-      exec,
-      entry,
+      held_none,
     )
 
 headers_at : (bytes : List ℕ) (a n : ℕ) → e_phoff bytes ≡ a → e_phnum bytes ≡ n → headers bytes ≡ map (λ k. header_from bytes (a + 56 * k)) (range_with_len 0 n)
@@ -271,23 +250,23 @@ reads_back p is small =
     let none : first_fault bytes ≡ None = accepted bytes p base is fields (magic_right p.entry n rest) (omega arith) (omega arith) (omega arith) same held in
     ap (λ (o : Option ImageFault). refused_or o (program bytes)) none ∙ ap (λ (q : Program). refused_or None q) held
 
-joined : (o a b c d e : List ℕ) → ((((o ++ a) ++ b) ++ c) ++ d) ++ e ≡ o ++ (a ++ (b ++ (c ++ (d ++ e))))
-joined o a b c d e = simp append_assoc
+joined : (o a b c d e f : List ℕ) → (((((o ++ a) ++ b) ++ c) ++ d) ++ e) ++ f ≡ o ++ (a ++ (b ++ (c ++ (d ++ (e ++ f)))))
+joined o a b c d e f = simp append_assoc
 
 -- the pieces in which the file header is written
 pub header_made : (o : List ℕ) (entry count : ℕ) →
-    ((((o ++ (0x7F ∷ 0x45 ∷ 0x4C ∷ 0x46 ∷ 2 ∷ 1 ∷ 1 ∷ 0 ∷ 0 ∷ 0 ∷ 0 ∷ 0 ∷ 0 ∷ 0 ∷ 0 ∷ 0 ∷ 2 ∷ 0 ∷ 0xF3 ∷ 0 ∷ 1 ∷ 0 ∷ 0 ∷ 0 ∷ [])) ++ little_bytes 8 entry)
-    ++ (64 ∷ 0 ∷ 0 ∷ 0 ∷ 0 ∷ 0 ∷ 0 ∷ 0 ∷ 0 ∷ 0 ∷ 0 ∷ 0 ∷ 0 ∷ 0 ∷ 0 ∷ 0 ∷ 0 ∷ 0 ∷ 0 ∷ 0 ∷ 64 ∷ 0 ∷ 56 ∷ 0 ∷ [])) ++ little_bytes 2 count) ++ (0 ∷ 0 ∷ 0 ∷ 0 ∷ 0 ∷ 0 ∷ [])
+    (((((o ++ ident_bytes) ++ (little_bytes 2 2 ++ little_bytes 2 243 ++ little_bytes 4 1)) ++ little_bytes 8 entry) ++ little_bytes 8 64) ++ replicate 12 0)
+    ++ (little_bytes 2 64 ++ little_bytes 2 56 ++ little_bytes 2 count ++ replicate 6 0)
     ≡ o ++ header_bytes entry count
 unfolding header_bytes ident_bytes
-header_made o entry count = joined o _ _ _ _ _
+header_made o entry count = joined o _ _ _ _ _ _
 
 joined_eight : (o a b c d e f g h : List ℕ) → (((((((o ++ a) ++ b) ++ c) ++ d) ++ e) ++ f) ++ g) ++ h ≡ o ++ (a ++ (b ++ (c ++ (d ++ (e ++ (f ++ (g ++ h)))))))
 joined_eight o a b c d e f g h = simp append_assoc
 
 -- the pieces in which a program header is written
 pub segment_made : (o : List ℕ) (at : ℕ) (s : Segment) →
-    (((((((o ++ (1 ∷ 0 ∷ 0 ∷ 0 ∷ [])) ++ little_bytes 4 s.flags) ++ little_bytes 8 at) ++ little_bytes 8 s.vaddr) ++ little_bytes 8 s.vaddr) ++ little_bytes 8 (length s.bytes)) ++ little_bytes 8 s.memsz) ++ little_bytes 8 1
+    (((((((o ++ little_bytes 4 1) ++ little_bytes 4 s.flags) ++ little_bytes 8 at) ++ little_bytes 8 s.vaddr) ++ little_bytes 8 s.vaddr) ++ little_bytes 8 (length s.bytes)) ++ little_bytes 8 s.memsz) ++ little_bytes 8 1
     ≡ o ++ segment_header at s
 unfolding segment_header
 segment_made o at s = joined_eight o _ _ _ _ _ _ _ _

@@ -4,6 +4,7 @@ use Rattle.std.specs.Prelude.{ℕ, ◌+◌, ◌*◌, List, [], ◌∷◌, ◌++�
 use Rattle.std.specs.List.{flat_map}
 use Rattle.byteorder.specs.Endian.{little_bytes}
 use Rattle.elf_image.specs.declared.program.Segment.{Segment}
+use Rattle.elf_image.specs.Header.{file_header_size, program_header_size}
 use Rattle.elf_image.specs.Image.{Program}
 
 -- 7F, `ELF`, 64 bits, little-endian, version 1, and zeros
@@ -16,7 +17,7 @@ ident_bytes = 0x7F ∷ 0x45 ∷ 0x4C ∷ 0x46 ∷ 2 ∷ 1 ∷ 1 ∷ replicate 9 
 unfoldable pub header_bytes : ℕ → ℕ → List ℕ
 header_bytes entry count =
     ident_bytes ++ little_bytes 2 2 ++ little_bytes 2 243 ++ little_bytes 4 1 ++ little_bytes 8 entry
-    ++ little_bytes 8 64 ++ replicate 8 0 ++ replicate 4 0 ++ little_bytes 2 64 ++ little_bytes 2 56 ++ little_bytes 2 count ++ replicate 6 0
+    ++ little_bytes 8 file_header_size ++ replicate 8 0 ++ replicate 4 0 ++ little_bytes 2 file_header_size ++ little_bytes 2 program_header_size ++ little_bytes 2 count ++ replicate 6 0
 
 -- the program header of a segment whose bytes stand at a place of the file: p_type, p_flags, p_offset,
 -- p_vaddr, p_paddr, p_filesz, p_memsz, p_align
@@ -32,10 +33,10 @@ table_bytes at (s ∷ rest) = segment_header at s ++ table_bytes (at + length s.
 
 -- how many bytes the file of some segments has
 abbrev pub file_size : List Segment → ℕ
-file_size segments = 64 + 56 * length segments + sum_by (λ s. length s.bytes) segments
+file_size segments = file_header_size + program_header_size * length segments + sum_by (λ s. length s.bytes) segments
 
 -- the file of a program
 unfoldable pub file_of : Program → List ℕ
 file_of p =
     header_bytes p.entry (length p.segments)
-    ++ (table_bytes (64 + 56 * length p.segments) p.segments ++ flat_map (λ s. s.bytes) p.segments)
+    ++ (table_bytes (file_header_size + program_header_size * length p.segments) p.segments ++ flat_map (λ s. s.bytes) p.segments)

@@ -5,6 +5,13 @@ use Rattle.std.specs.List.{range_with_len}
 use Rattle.byteorder.specs.Endian.{little_number}
 use Rattle.elf_image.specs.declared.headers.ProgramHeader.{ProgramHeader}
 
+-- how many bytes the file header has, and each program header
+abbrev pub file_header_size : ℕ
+file_header_size = 64
+
+abbrev pub program_header_size : ℕ
+program_header_size = 56
+
 -- the number in the n bytes from a place on
 abbrev pub number_at : ℕ → ℕ → List ℕ → ℕ
 number_at n at bytes = little_number n (drop at bytes)
@@ -48,9 +55,9 @@ header_from bytes at = record {
   memsz = number_at 8 (at + 40) bytes;
 }
 
--- program header number k: each has 56 bytes
+-- program header number k
 abbrev pub header_at : List ℕ → ℕ → ProgramHeader
-header_at bytes k = header_from bytes (e_phoff bytes + 56 * k)
+header_at bytes k = header_from bytes (e_phoff bytes + program_header_size * k)
 
 -- all program headers, in the file's order
 abbrev pub headers : List ℕ → List ProgramHeader

@@ -1,10 +1,11 @@
 -- Which ELF64 files this simulator takes, and the program that such a file holds. The fields are those
 -- of the System V ABI, the machine that of the RISC-V ELF psABI; which files are refused, and the
 -- limits, are this simulator's own.
-use Rattle.std.specs.Prelude.{ℕ, ◌+◌, ◌*◌, ◌/◌, ◌%◌, ◌^◌, ◌==◌, ◌≤◌, ◌<◌, ◌≡◌, ◌&&◌, ◌||◌, Bool, true, false, not, List, [], ◌∷◌, length, map, take, drop, min, max, nat_lt, nat_le, nat_eq, ◌++◌, if◌then◌else◌, Option, Some, None, Result, Ok, Err, All, sum_by}
+use Rattle.std.specs.Prelude.{ℕ, ◌+◌, ◌*◌, ◌/◌, ◌%◌, ◌^◌, ◌==◌, ◌≤◌, ◌<◌, ◌≡◌, ◌&&◌, ◌||◌, Bool, true, false, not, List, [], ◌∷◌, length, map, take, drop, min, max, nat_lt, nat_le, nat_eq, if◌then◌else◌, Option, Some, None, Result, Ok, Err, All, sum_by, IsTrue, IsSomeAnd, ◌↔◌, slice_get}
 use Rattle.std.specs.List.{list_any, starts_with}
+use Rattle.std.specs.Option.{option_or}
 use Rattle.elf_image.specs.declared.headers.ProgramHeader.{ProgramHeader}
-use Rattle.elf_image.specs.Header.{headers, loads, class, data_encoding, ident_version, e_type, e_machine, e_entry, e_phoff, e_phentsize, e_phnum}
+use Rattle.elf_image.specs.Header.{file_header_size, program_header_size, headers, loads, class, data_encoding, ident_version, e_type, e_machine, e_entry, e_phoff, e_phentsize, e_phnum}
 use Rattle.elf_image.specs.declared.program.Segment.{Segment}
 use Rattle.elf_image.specs.declared.refusal.ImageFault.{ImageFault}
 use Rattle.elf_image.specs.declared.refusal.ImageFault.TheVariants.{TooLong, Short, Magic, Class, Kind, Machine, Headers, Dynamic, Interp, Tls, Reach, Overlap, WriteExec, Entry}
@@ -26,7 +27,7 @@ grants_write s = s.flags / 2 % 2 == 1
 abbrev pub grants_read : Segment → Bool
 grants_read s = s.flags / 4 % 2 == 1
 
--- the first address past a segment
+-- the first address past a segment. An empty segment has one too, though no address lies in it
 abbrev pub segment_end : Segment → ℕ
 segment_end s = s.vaddr + s.memsz
 
@@ -59,7 +60,12 @@ segment_of bytes h = record {
 
 -- the segment of a header without its bytes, which no test of the memory asks for
 abbrev pub frame : ProgramHeader → Segment
-frame h = segment_of [] h
+frame h = record {
+  vaddr = h.vaddr;
+  memsz = h.memsz;
+  flags = h.flags % 8;
+  bytes = [];
+}
 
 -- the program of a file
 abbrev pub program : List ℕ → Program
@@ -73,7 +79,7 @@ is_too_long bytes = nat_lt 16777216 (length bytes)
 
 -- fewer bytes than the file header has
 abbrev pub is_short : List ℕ → Bool
-is_short bytes = nat_lt (length bytes) 64
+is_short bytes = nat_lt (length bytes) file_header_size
 
 -- the first four bytes aren't 7F and `ELF`
 unfoldable pub has_wrong_magic : List ℕ → Bool
@@ -95,12 +101,12 @@ has_wrong_machine bytes = not (e_machine bytes == 243)
 abbrev pub has_wrong_size : List ℕ → ProgramHeader → Bool
 has_wrong_size bytes h = nat_lt h.memsz h.filesz || nat_lt (length bytes) (h.offset + h.filesz)
 
--- program headers that aren't of 56 bytes, none or more than 64 of them, or a table of them that passes
+-- program headers of another size, none or more than 64 of them, or a table of them that passes
 -- the file's end
 abbrev pub has_wrong_table : List ℕ → Bool
 has_wrong_table bytes =
-    not (e_phentsize bytes == 56) || e_phnum bytes == 0 || nat_lt 64 (e_phnum bytes)
-    || nat_lt (length bytes) (e_phoff bytes + 56 * e_phnum bytes)
+    not (e_phentsize bytes == program_header_size) || e_phnum bytes == 0 || nat_lt 64 (e_phnum bytes)
+    || nat_lt (length bytes) (e_phoff bytes + program_header_size * e_phnum bytes)
 
 -- a wrong table, or a loaded header with wrong sizes
 unfoldable pub has_wrong_headers : List ℕ → Bool
@@ -120,6 +126,15 @@ abbrev pub overlaps : List Segment → Bool
 overlaps [] = false
 overlaps (s ∷ rest) = list_any (share_byte s) rest || overlaps rest
 
+-- two different segments have an address in common, which is what it means to overlap
+abbrev pub HaveCommonAddress : List Segment → Type 0
+HaveCommonAddress segments =
+    (i : ℕ) × (j : ℕ) × (address : ℕ) × (i < j) × IsSomeAnd (slice_get segments i) (λ s. IsTrue (holds s address))
+    × IsSomeAnd (slice_get segments j) (λ t. IsTrue (holds t address))
+
+abbrev pub OverlapIsCommonAddress : Type 0
+OverlapIsCommonAddress = (segments : List Segment) → IsTrue (overlaps segments) ↔ HaveCommonAddress segments
+
 -- a segment can be both written and executed
 unfoldable pub has_write_exec : List Segment → Bool
 has_write_exec segments = list_any (λ s. grants_write s && grants_execute s) segments
@@ -128,39 +143,36 @@ has_write_exec segments = list_any (λ s. grants_write s && grants_execute s) se
 unfoldable pub has_wrong_entry : Program → Bool
 has_wrong_entry p = not (p.entry % 4 == 0 && some_executes p p.entry)
 
--- a fault, and the test of the files that have it
-abbrev pub Refusal : Type 0
-Refusal = ImageFault × (List ℕ → Bool)
+-- a fault, and the test of what has it, which is a file or a program
+abbrev pub Refusal : Type 0 → Type 0
+Refusal A = ImageFault × (A → Bool)
 
 -- the refusals that the file header decides
-unfoldable pub header_refusals : List Refusal
+unfoldable pub header_refusals : List (Refusal (List ℕ))
 header_refusals =
     (TooLong, is_too_long) ∷ (Short, is_short) ∷ (Magic, has_wrong_magic) ∷ (Class, has_wrong_class)
     ∷ (Kind, has_wrong_kind) ∷ (Machine, has_wrong_machine) ∷ []
 
 -- those that the program headers decide
-unfoldable pub table_refusals : List Refusal
+unfoldable pub table_refusals : List (Refusal (List ℕ))
 table_refusals =
     (Headers, has_wrong_headers) ∷ (Dynamic, has_kind 2) ∷ (Interp, has_kind 3) ∷ (Tls, has_kind 7) ∷ []
 
 -- those that the program decides, once it is taken from the file
-unfoldable pub program_refusals : List Refusal
+unfoldable pub program_refusals : List (Refusal Program)
 program_refusals =
-    (Reach, (λ bytes. reaches_too_far (program bytes).segments)) ∷ (Overlap, (λ bytes. overlaps (program bytes).segments))
-    ∷ (WriteExec, (λ bytes. has_write_exec (program bytes).segments)) ∷ (Entry, (λ bytes. has_wrong_entry (program bytes))) ∷ []
+    (Reach, (λ p. reaches_too_far p.segments)) ∷ (Overlap, (λ p. overlaps p.segments))
+    ∷ (WriteExec, (λ p. has_write_exec p.segments)) ∷ (Entry, has_wrong_entry) ∷ []
 
--- all refusals, in order
-abbrev pub refusals : List Refusal
-refusals = header_refusals ++ table_refusals ++ program_refusals
+-- the first fault of a list that a file or a program has
+unfoldable pub first_of : {A : Type 0} → List (Refusal A) → A → Option ImageFault
+first_of [] held = None
+first_of (row ∷ rows) held = if row.1 held then Some row.0 else first_of rows held
 
--- the first fault of a list that a file has
-unfoldable pub first_of : List Refusal → List ℕ → Option ImageFault
-first_of [] bytes = None
-first_of (row ∷ rows) bytes = if row.1 bytes then Some row.0 else first_of rows bytes
-
--- the first fault of a file, if it has one
+-- the first fault of a file, if it has one: of the file header, then of the program headers, then of the program
 abbrev pub first_fault : List ℕ → Option ImageFault
-first_fault bytes = first_of refusals bytes
+first_fault bytes =
+    option_or (first_of header_refusals bytes) (option_or (first_of table_refusals bytes) (first_of program_refusals (program bytes)))
 
 -- a fault, or where there is none the program
 abbrev pub refused_or : Option ImageFault → Program → Result Program ImageFault
@@ -192,3 +204,13 @@ pub record IsProgram (p : Program) : Type 0 where
   pub apart : overlaps p.segments ≡ false
   pub aligned : p.entry % 4 ≡ 0
   pub entered : some_executes p p.entry ≡ true
+
+-- what a caller sees of segments by themselves: there are few, each has low flags, and no more bytes than memory
+pub record AreSmall (segments : List Segment) : Type 0 where
+  pub few : length segments ≤ 64
+  pub bytes_fit : All (λ s. length s.bytes ≤ s.memsz) segments
+  pub three_flags : All (λ s. s.flags < 8) segments
+
+-- a program is few small segments and an entry that have none of a program's faults
+abbrev pub ProgramIsWithoutFault : Type 0
+ProgramIsWithoutFault = (p : Program) → IsProgram p ↔ (AreSmall p.segments × (first_of program_refusals p ≡ None))

@@ -1,6 +1,6 @@
 -- Where a program's segments, its heap and its stack lie in memory, and who may read, write and execute
 -- what. This simulator's own; a word is four bytes in little-endian order, as the RISC-V ISA manual has it.
-use Rattle.std.specs.Prelude.{ℕ, ◌+◌, ◌-◌, ◌*◌, ◌/◌, ◌%◌, ◌==◌, ◌&&◌, ◌||◌, ◌≡◌, ◌<◌, ◌≤◌, ◌^◌, true, Bool, List, ◌++◌, map, nat_lt, nat_le, max, fold, find, if◌then◌else◌, Option, Some, None, slice_index, option_and_then}
+use Rattle.std.specs.Prelude.{ℕ, ◌+◌, ◌-◌, ◌*◌, ◌/◌, ◌%◌, ◌==◌, ◌&&◌, ◌||◌, ◌≡◌, ◌<◌, ◌≤◌, ◌^◌, true, Bool, List, ◌++◌, All, map, nat_lt, nat_le, max, fold, find, if◌then◌else◌, Option, Some, None, slice_index, option_and_then}
 use Rattle.std.specs.List.{list_any, list_all, flat_map, range_with_len}
 use Rattle.std.specs.Option.{option_map_or}
 use Rattle.byteorder.specs.Endian.{little_number}
@@ -20,7 +20,7 @@ pub record Setup : Type 0 where
   pub image : Program
   pub config : Config
 
--- the greatest of the segments' ends, or 0 where there are none
+-- the greatest of the segments' ends, or 0 where there are none. The end of an empty segment counts
 abbrev pub last_end : List Segment → ℕ
 last_end segments = fold (λ last s. max last (segment_end s)) 0 segments
 
@@ -31,6 +31,16 @@ round_up n = (n + 4095) / 4096 * 4096
 -- the heap window starts at the first page past every segment, and the stacks 4096 bytes after the window
 abbrev pub heap_start : Setup → ℕ
 heap_start w = round_up (last_end w.image.segments)
+
+-- a number is the least multiple of 4096 that isn't below any segment's end
+pub record IsPagePast (segments : List Segment) (n : ℕ) : Type 0 where
+  pub paged : n % 4096 ≡ 0
+  pub above : All (λ s. segment_end s ≤ n) segments
+  pub least : (m : ℕ) → m % 4096 ≡ 0 → All (λ s. segment_end s ≤ m) segments → n ≤ m
+
+-- the heap window's start is that number
+abbrev pub HeapStartsPastSegments : Type 0
+HeapStartsPastSegments = (w : Setup) → IsPagePast w.image.segments (heap_start w)
 
 abbrev pub heap_end : Setup → ℕ
 heap_end w = heap_start w + w.config.heap_bytes

@@ -1,27 +1,22 @@
-ghost use Rattle.std.specs.Prelude.{◌≡◌, ◌+◌, ◌*◌, ◌≤◌, ◌^◌, ◌-◌, ◌%◌, ◌==◌, ◌||◌, ◌&&◌, not, ℕ, List, map, drop, min, nat_lt, length, sum_by, IfNone};
+ghost use Rattle.std.specs.Prelude.{◌≡◌, ◌+◌, ◌*◌, ◌≤◌, ◌^◌, ◌-◌, ◌%◌, ◌==◌, ◌||◌, ◌&&◌, not, ℕ, List, map, drop, min, nat_lt, length, sum_by, IfNone, OnSome};
 ghost use Rattle.std.specs.Bool.{OnFalse};
 ghost use Rattle.std.specs.List.{list_any};
-ghost use Rattle.elf_image.specs.Header.{e_entry, e_phoff, e_phnum, e_phentsize, headers, loads};
-ghost use Rattle.elf_image.specs.Image.{frame, segment_end, share_byte, grants_write, grants_execute, holds, first_of, header_refusals, table_refusals, program_refusals, has_wrong_magic, has_wrong_class, has_wrong_kind, has_wrong_machine, has_kind, has_wrong_table, has_wrong_size, reaches_too_far, overlaps, has_write_exec, has_wrong_entry};
+ghost use Rattle.elf_image.specs.Header.{e_phoff, e_phnum, e_phentsize, headers};
+ghost use Rattle.elf_image.specs.Image.{share_byte, segment_end, holds, grants_execute, first_of, header_refusals, table_refusals, program_refusals, has_wrong_magic, has_wrong_class, has_wrong_kind, has_wrong_machine, has_kind, has_wrong_table, has_wrong_size, reaches_too_far, overlaps, has_write_exec, has_wrong_entry, AreSmall, IsProgram};
 
-use crate::headers::{ProgramHeader, entry_of, header_count, table_offset};
+use crate::headers::{
+    CLASS_64, EXECUTABLE, FILE_HEADER, LITTLE_ENDIAN, MAGIC, PROGRAM_HEADER, ProgramHeader, RISC_V,
+    VERSION, header_count, table_offset,
+};
+use crate::program::Segment;
 use crate::refusal::ImageFault;
 use byteorder::{ByteOrder, LittleEndian};
 
 /// The greatest length of a file, in bytes.
 pub const FILE_LIMIT: usize = 16_777_216;
 
-/// The length of the file header, in bytes.
-const FILE_HEADER: usize = 64;
-
-/// The length of a program header, in bytes.
-const PROGRAM_HEADER: u16 = 56;
-
 /// The greatest number of program headers.
 const HEADER_LIMIT: u16 = 64;
-
-/// The machine number of RISC-V.
-const RISC_V: u16 = 243;
 
 /// The greatest number of bytes of memory that the segments have in all.
 const MEMORY_LIMIT: u64 = 268_435_456;
@@ -65,7 +60,7 @@ fn identity_fault(bytes: &[u8]) -> Option<ImageFault>
 fn has_wrong_magic(bytes: &[u8]) -> bool
     ensures { result ≡ has_wrong_magic bytes.now }
 {
-    !bytes.starts_with(b"\x7fELF")
+    !bytes.starts_with(&MAGIC)
 }
 
 /// Whether the file isn't one of 64 bits, little-endian, of version 1.
@@ -74,7 +69,7 @@ fn has_wrong_class(bytes: &[u8]) -> bool
     requires { 64 ≤ length bytes.now }
     ensures { result ≡ has_wrong_class bytes.now }
 {
-    bytes[4] != 2 || bytes[5] != 1 || bytes[6] != 1
+    bytes[4] != CLASS_64 || bytes[5] != LITTLE_ENDIAN || bytes[6] != VERSION
 }
 
 /// Whether the file isn't an executable one.
@@ -83,7 +78,7 @@ fn has_wrong_kind(bytes: &[u8]) -> bool
     requires { 64 ≤ length bytes.now }
     ensures { result ≡ has_wrong_kind bytes.now }
 {
-    LittleEndian::read_u16(&bytes[16..]) != 2
+    LittleEndian::read_u16(&bytes[16..]) != EXECUTABLE
 }
 
 /// Whether the file isn't for RISC-V.
@@ -102,10 +97,10 @@ pub fn has_wrong_table(bytes: &[u8]) -> bool
     ensures few { OnFalse result (e_phnum bytes.now ≤ 64) }
     ensures room { OnFalse result (e_phoff bytes.now + 56 * e_phnum bytes.now ≤ length bytes.now) }
 {
-    let size = header_size(bytes);
+    let size = header_size(bytes) as usize;
     let count = header_count(bytes);
     let len = bytes.len() as u64;
-    let table = u64::from(PROGRAM_HEADER) * u64::from(count);
+    let table = PROGRAM_HEADER as u64 * u64::from(count);
     let has_wrong_count = count == 0 || count > HEADER_LIMIT;
     size != PROGRAM_HEADER || has_wrong_count || table > len || table_offset(bytes) > len - table
 }
@@ -148,17 +143,30 @@ fn has_kind(table: &[ProgramHeader], kind: u32) -> bool
     table.iter().any(|header| header.kind == kind)
 }
 
-/// The first fault of the program of the entry and the loaded headers.
-pub fn program_fault(entry: u64, loaded: &[ProgramHeader]) -> Option<ImageFault>
-    ensures { (bytes : List ℕ) → e_entry bytes ≡ entry → loads bytes ≡ loaded.now → result ≡ first_of program_refusals bytes }
+/// The first rule on whole programs that an entry and segments break: that the segments end at or below 2^32 and
+/// have at most 268,435,456 bytes of memory in all, that no two share a byte, that none can be both written and
+/// executed, and that the entry is a multiple of 4 in an executable one. Where there is none they are a program, if
+/// there are at most 64 segments, each with flags below 8 and no more bytes than memory.
+pub fn program_fault(entry: u64, segments: &[Segment]) -> Option<ImageFault>
+    ensures value { result ≡ first_of program_refusals (record { entry = entry; segments = segments.now }) }
+    ensures program { IfNone result (AreSmall segments.now → IsProgram (record { entry = entry; segments = segments.now })) }
+    ensures fault { OnSome result (IsProgram (record { entry = entry; segments = segments.now }) → ⊥) }
 {
-    if reaches_too_far(loaded) {
+    first_program_fault(entry, segments)
+}
+
+/// The first rule on whole programs that an entry and segments break.
+#[tactic(auto, unfolding(crate::specs::Image::first_of, crate::specs::Image::program_refusals))]
+fn first_program_fault(entry: u64, segments: &[Segment]) -> Option<ImageFault>
+    ensures { result ≡ first_of program_refusals (record { entry = entry; segments = segments.now }) }
+{
+    if reaches_too_far(segments) {
         Some(ImageFault::Reach)
-    } else if overlaps(loaded) {
+    } else if overlaps(segments) {
         Some(ImageFault::Overlap)
-    } else if has_write_exec(loaded) {
+    } else if has_write_exec(segments) {
         Some(ImageFault::WriteExec)
-    } else if has_wrong_entry(entry, loaded) {
+    } else if has_wrong_entry(entry, segments) {
         Some(ImageFault::Entry)
     } else {
         None
@@ -166,70 +174,74 @@ pub fn program_fault(entry: u64, loaded: &[ProgramHeader]) -> Option<ImageFault>
 }
 
 /// Whether a segment ends above 2^32, or the segments have too much memory in all.
-fn reaches_too_far(loaded: &[ProgramHeader]) -> bool
-    ensures { result ≡ (list_any (λ h. nat_lt (2 ^ 32) (segment_end (frame h))) loaded.now || nat_lt 268435456 (sum_by (λ h. h.memsz) loaded.now)) }
+#[tactic(auto, unfolding(crate::specs::Image::reaches_too_far))]
+fn reaches_too_far(segments: &[Segment]) -> bool
+    ensures { result ≡ reaches_too_far segments.now }
 {
-    some_ends_too_high(loaded) || total_size(loaded) > MEMORY_LIMIT
+    some_ends_too_high(segments) || total_size(segments) > MEMORY_LIMIT
 }
 
 /// Whether a segment ends above 2^32.
-fn some_ends_too_high(loaded: &[ProgramHeader]) -> bool
-    ensures { result ≡ list_any (λ h. nat_lt (2 ^ 32) (segment_end (frame h))) loaded.now }
+fn some_ends_too_high(segments: &[Segment]) -> bool
+    ensures { result ≡ list_any (λ s. nat_lt (2 ^ 32) (segment_end s)) segments.now }
 {
-    loaded.iter().any(|header| header.ends_too_high())
+    segments.iter().any(|segment| segment.ends_too_high())
 }
 
 /// How many bytes of memory the segments have in all, or `u64::MAX` where that is less.
-fn total_size(loaded: &[ProgramHeader]) -> u64
-    ensures { result ≡ min (sum_by (λ h. h.memsz) loaded.now) (2 ^ 64 - 1) }
+fn total_size(segments: &[Segment]) -> u64
+    ensures { result ≡ min (sum_by (λ s. s.memsz) segments.now) (2 ^ 64 - 1) }
 {
     let mut total: u64 = 0;
-    for header in loaded {
-        total = total.saturating_add(header.memsz);
+    for segment in segments {
+        total = total.saturating_add(segment.memsz);
     }
     total
 }
 
 /// Whether two segments share a byte.
-#[tactic(auto, using(crate::proofs::Loads::overlaps_step))]
-fn overlaps(loaded: &[ProgramHeader]) -> bool
-    ensures { result ≡ overlaps (map frame loaded.now) }
+fn overlaps(segments: &[Segment]) -> bool
+    ensures { result ≡ overlaps segments.now }
 {
-    for (place, header) in loaded.iter().enumerate() {
-        let (_, later) = loaded.split_at(place + 1);
-        if shares_with_some(*header, later) {
+    for (place, segment) in segments.iter().enumerate() {
+        let (_, later) = segments.split_at(place + 1);
+        if shares_with_some(segment, later) {
             return true;
         }
     }
     false
 }
 
-/// Whether a header's segment shares a byte with that of some other.
-fn shares_with_some(header: ProgramHeader, others: &[ProgramHeader]) -> bool
-    ensures { result ≡ list_any (λ h. share_byte (frame header) (frame h)) others.now }
+/// Whether a segment shares a byte with some other.
+fn shares_with_some(segment: &Segment, others: &[Segment]) -> bool
+    ensures { result ≡ list_any (share_byte segment.now) others.now }
 {
-    others.iter().any(|other| header.shares_byte(other))
+    others.iter().any(|other| segment.shares_byte(other))
 }
 
 /// Whether a segment can be both written and executed.
-fn has_write_exec(loaded: &[ProgramHeader]) -> bool
-    ensures { result ≡ list_any (λ h. grants_write (frame h) && grants_execute (frame h)) loaded.now }
+#[tactic(auto, unfolding(crate::specs::Image::has_write_exec))]
+fn has_write_exec(segments: &[Segment]) -> bool
+    ensures { result ≡ has_write_exec segments.now }
 {
-    loaded.iter().any(|header| header.is_written_and_executed())
+    segments
+        .iter()
+        .any(|segment| segment.is_writable() && segment.is_executable())
 }
 
 /// Whether the entry isn't a multiple of 4, or lies in no executable segment.
-fn has_wrong_entry(entry: u64, loaded: &[ProgramHeader]) -> bool
-    ensures { result ≡ not (entry % 4 == 0 && list_any (λ h. grants_execute (frame h) && holds (frame h) entry) loaded.now) }
+#[tactic(auto, unfolding(crate::specs::Image::has_wrong_entry))]
+fn has_wrong_entry(entry: u64, segments: &[Segment]) -> bool
+    ensures { result ≡ has_wrong_entry (record { entry = entry; segments = segments.now }) }
 {
-    entry % 4 != 0 || !has_entry(entry, loaded)
+    entry % 4 != 0 || !has_entry(entry, segments)
 }
 
 /// Whether the entry lies in an executable segment.
-fn has_entry(entry: u64, loaded: &[ProgramHeader]) -> bool
-    ensures { result ≡ list_any (λ h. grants_execute (frame h) && holds (frame h) entry) loaded.now }
+fn has_entry(entry: u64, segments: &[Segment]) -> bool
+    ensures { result ≡ list_any (λ s. grants_execute s && holds s entry) segments.now }
 {
-    loaded
+    segments
         .iter()
-        .any(|header| header.is_executable() && header.holds(entry))
+        .any(|segment| segment.is_executable() && segment.holds(entry))
 }

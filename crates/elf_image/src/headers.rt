@@ -1,16 +1,38 @@
-ghost use Rattle.std.specs.Prelude.{◌≡◌, ◌+◌, ◌*◌, ◌≤◌, ◌&&◌, ◌==◌, ◌^◌, nat_lt, length, filter, IfOk};
+ghost use Rattle.std.specs.Prelude.{◌≡◌, ◌+◌, ◌*◌, ◌≤◌, ◌==◌, ◌%◌, length, filter, IfOk};
 ghost use Rattle.elf_image.specs.Header.{e_entry, e_phoff, e_phnum, header_from, headers};
-ghost use Rattle.elf_image.specs.Image.{has_wrong_size, frame, segment_end, holds, share_byte, grants_write, grants_execute};
+ghost use Rattle.elf_image.specs.Image.{has_wrong_size};
 
+use crate::program::Segment;
 use byteorder::{ByteOrder, LittleEndian};
-use sim_base::NoMemory;
+use sim_base::{Bytes, NoMemory};
 use std::alloc::Global;
 
-/// The first address past those that a segment may have: 2^32.
-const ADDRESS_END: u64 = 1 << 32;
+/// The first four bytes of an ELF file.
+pub const MAGIC: [u8; 4] = [0x7F, b'E', b'L', b'F'];
+
+/// The class of files of 64 bits.
+pub const CLASS_64: u8 = 2;
+
+/// The data encoding of little-endian files.
+pub const LITTLE_ENDIAN: u8 = 1;
+
+/// The version of the format.
+pub const VERSION: u8 = 1;
+
+/// The type of an executable file.
+pub const EXECUTABLE: u16 = 2;
+
+/// The machine number of RISC-V.
+pub const RISC_V: u16 = 243;
+
+/// The length of the file header, in bytes.
+pub const FILE_HEADER: usize = 64;
 
 /// The length of a program header, in bytes.
-const PROGRAM_HEADER: usize = 56;
+pub const PROGRAM_HEADER: usize = 56;
+
+/// The type of a program header of what is loaded into memory.
+pub const LOAD: u32 = 1;
 
 /// The fields of a program header that are read, by the System V ABI.
 #[derive(Clone, Copy)]
@@ -50,7 +72,19 @@ impl ProgramHeader {
     pub fn is_loaded(&self) -> bool
         ensures { result ≡ (self.now.kind == 1) }
     {
-        self.kind == 1
+        self.kind == LOAD
+    }
+
+    /// Its segment, with these bytes and the low three bits of the flags.
+    pub fn with_bytes(&self, bytes: Vec<u8>) -> Segment
+        ensures { result ≡ record { vaddr = self.now.vaddr; memsz = self.now.memsz; flags = self.now.flags % 8; bytes = bytes.items } }
+    {
+        Segment {
+            vaddr: self.vaddr,
+            memsz: self.memsz,
+            flags: self.flags % 8,
+            bytes: Bytes::from_vec(bytes),
+        }
     }
 
     /// Whether it has more bytes in the file than in memory, or some past the file's end.
@@ -59,42 +93,6 @@ impl ProgramHeader {
     {
         let len = bytes.len() as u64;
         self.memsz < self.filesz || self.filesz > len || self.offset > len - self.filesz
-    }
-
-    /// Whether its memory ends above 2^32.
-    pub fn ends_too_high(&self) -> bool
-        ensures { result ≡ nat_lt (2 ^ 32) (segment_end (frame self.now)) }
-    {
-        self.memsz > ADDRESS_END || self.vaddr > ADDRESS_END - self.memsz
-    }
-
-    /// Whether an address lies in its memory.
-    pub fn holds(&self, address: u64) -> bool
-        ensures { result ≡ holds (frame self.now) address }
-    {
-        self.vaddr <= address && address - self.vaddr < self.memsz
-    }
-
-    /// Whether some address lies in the memory of both: then the later of the starts does.
-    pub fn shares_byte(&self, other: &ProgramHeader) -> bool
-        ensures { result ≡ share_byte (frame self.now) (frame other.now) }
-    {
-        let start = self.vaddr.max(other.vaddr);
-        self.holds(start) && other.holds(start)
-    }
-
-    /// Whether its memory may be executed.
-    pub fn is_executable(&self) -> bool
-        ensures { result ≡ grants_execute (frame self.now) }
-    {
-        self.flags % 2 == 1
-    }
-
-    /// Whether its memory may be both written and executed.
-    pub fn is_written_and_executed(&self) -> bool
-        ensures { result ≡ (grants_write (frame self.now) && grants_execute (frame self.now)) }
-    {
-        self.flags / 2 % 2 == 1 && self.flags % 2 == 1
     }
 }
 

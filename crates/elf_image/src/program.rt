@@ -1,10 +1,10 @@
-ghost use Rattle.std.specs.Prelude.{◌≡◌, ◌+◌, ◌^◌, ◌<◌, ◌≤◌, ◌&&◌, find, map, IfSome, IfOk, IsTrue};
+ghost use Rattle.std.specs.Prelude.{◌≡◌, ◌+◌, ◌^◌, ◌<◌, ◌≤◌, ◌&&◌, find, map, IfSome, IfOk, IsTrue, nat_lt};
 ghost use Rattle.std.specs.List.{range_with_len};
 ghost use Rattle.byteorder.specs.Endian.{little_number};
 ghost use Rattle.std.specs.Option.{option_copied};
 ghost use Rattle.elf_image.specs.Layout.{byte_of, holds_word};
 ghost use Rattle.elf_image.specs.Decoded.{row_at, program_row};
-ghost use Rattle.elf_image.specs.Image.{holds, grants_execute, grants_write, grants_read, some_reads, some_writes, IsProgram};
+ghost use Rattle.elf_image.specs.Image.{holds, segment_end, share_byte, grants_execute, grants_write, grants_read, some_reads, some_writes, IsProgram};
 
 use crate::decoded::{Decoded, decode_all, first_found};
 use byteorder::{ByteOrder, LittleEndian};
@@ -12,6 +12,9 @@ use rv_decode::{Instr, decode};
 use sim_base::{Bytes, NoMemory};
 use std::alloc::Global;
 use std::marker::Model;
+
+/// The first address past those that a segment may have: 2^32.
+const ADDRESS_END: u64 = 1 << 32;
 
 /// A part of a program that is loaded into memory: the addresses from `vaddr` to `vaddr + memsz`.
 #[derive(Drop)]
@@ -32,6 +35,21 @@ impl Segment {
         ensures { result ≡ holds self.now address }
     {
         self.vaddr <= address && address - self.vaddr < self.memsz
+    }
+
+    /// Whether it ends above 2^32.
+    pub(crate) fn ends_too_high(&self) -> bool
+        ensures { result ≡ nat_lt (2 ^ 32) (segment_end self.now) }
+    {
+        self.memsz > ADDRESS_END || self.vaddr > ADDRESS_END - self.memsz
+    }
+
+    /// Whether some address lies in both: then the later of the starts does.
+    pub(crate) fn shares_byte(&self, other: &Segment) -> bool
+        ensures { result ≡ share_byte self.now other.now }
+    {
+        let start = self.vaddr.max(other.vaddr);
+        self.holds(start) && other.holds(start)
     }
 
     /// Whether the four bytes at an address lie in the segment.

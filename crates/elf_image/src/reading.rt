@@ -1,14 +1,14 @@
-ghost use Rattle.std.specs.Prelude.{◌≡◌, ◌+◌, ◌≤◌, false, ◌++◌, length, map, Some, None, All, IfOk, IfErr, OnOk};
+ghost use Rattle.std.specs.Prelude.{◌≡◌, ◌+◌, ◌≤◌, false, length, map, Some, None, All, IfOk, IfErr, OnOk};
 ghost use Rattle.elf_image.specs.declared.refusal.ImageFault.{ImageFault};
 ghost use Rattle.elf_image.specs.declared.refusal.ImageRefusal.TheVariants.{Bad};
 ghost use Rattle.elf_image.specs.Header.{headers, loads};
-ghost use Rattle.elf_image.specs.Image.{image_of, first_fault, first_of, table_refusals, program_refusals, has_wrong_table, segment_of, Reads};
+ghost use Rattle.elf_image.specs.Image.{image_of, first_fault, first_of, table_refusals, has_wrong_table, segment_of, frame, Reads};
 
 use crate::faults::{has_wrong_load, has_wrong_table, header_fault, kind_fault, program_fault};
 use crate::headers::{ProgramHeader, entry_of, loads_of, read_headers};
 use crate::program::{Image, Segment};
 use crate::refusal::{ImageFault, ImageRefusal};
-use sim_base::{Bytes, NoMemory};
+use sim_base::NoMemory;
 use std::alloc::Global;
 
 /// Reads the image of an ELF64 file, whose fields are little-endian, by the System V ABI. A file that
@@ -37,31 +37,42 @@ fn read_loads(alloc: Global, bytes: &[u8]) -> Result<Vec<ProgramHeader>, ImageRe
     }
     let table = read_headers(alloc, bytes)?;
     let loaded = loads_of(alloc, table.as_slice())?;
-    match table_fault(bytes, table.as_slice(), loaded.as_slice()) {
+    if let Some(fault) = table_fault(bytes, table.as_slice(), loaded.as_slice()) {
+        return Err(ImageRefusal::Bad { fault });
+    }
+    let frames = frames_of(alloc, loaded.as_slice())?;
+    match program_fault(entry_of(bytes), frames.as_slice()) {
         Some(fault) => Err(ImageRefusal::Bad { fault }),
         None => Ok(loaded),
     }
 }
 
-/// The first fault of a file whose file header and table have none.
+/// The first fault of the headers of a file whose table has the right size.
 fn table_fault(
     bytes: &[u8],
     table: &[ProgramHeader],
     loaded: &[ProgramHeader],
 ) -> Option<ImageFault>
-    requires room { 64 ≤ length bytes.now }
     requires right { has_wrong_table bytes.now ≡ false }
     requires table { table.now ≡ headers bytes.now }
     requires loaded { loaded.now ≡ loads bytes.now }
-    ensures { result ≡ first_of (table_refusals ++ program_refusals) bytes.now }
+    ensures { result ≡ first_of table_refusals bytes.now }
 {
     if has_wrong_load(bytes, loaded) {
         return Some(ImageFault::Headers);
     }
-    if let Some(fault) = kind_fault(table) {
-        return Some(fault);
+    kind_fault(table)
+}
+
+/// The segments of loaded headers without their bytes, which no test of a program asks for.
+fn frames_of(alloc: Global, loaded: &[ProgramHeader]) -> Result<Vec<Segment>, NoMemory>
+    ensures { IfOk result (λ frames. frames.items ≡ map frame loaded.now) }
+{
+    let mut frames = Vec::with_capacity(alloc, loaded.len())?;
+    for header in loaded {
+        frames.push(header.with_bytes(Vec::new(alloc)))?;
     }
-    program_fault(entry_of(bytes), loaded)
+    Ok(frames)
 }
 
 /// The segments of loaded headers.
@@ -86,10 +97,5 @@ fn read_segment(alloc: Global, bytes: &[u8], header: &ProgramHeader) -> Result<S
     ensures { IfOk result (λ segment. segment ≡ segment_of bytes.now header.now) }
 {
     let held = &bytes[header.offset as usize..][..header.filesz as usize];
-    Ok(Segment {
-        vaddr: header.vaddr,
-        memsz: header.memsz,
-        flags: header.flags % 8,
-        bytes: Bytes::from_vec(held.to_vec(alloc)?),
-    })
+    Ok(header.with_bytes(held.to_vec(alloc)?))
 }

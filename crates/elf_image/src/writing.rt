@@ -1,28 +1,15 @@
-ghost use Rattle.std.specs.Prelude.{◌≡◌, ◌+◌, ◌*◌, ◌≤◌, ◌<◌, ◌^◌, ◌++◌, length, map, sum_by, All, Ok, OnOk, IfOk};
+ghost use Rattle.std.specs.Prelude.{◌≡◌, ◌+◌, ◌*◌, ◌≤◌, ◌<◌, ◌^◌, ◌++◌, length, map, sum_by, All, Ok, OnOk, IfOk, replicate};
 ghost use Rattle.std.specs.List.{flat_map};
 ghost use Rattle.byteorder.specs.Endian.{little_bytes};
 ghost use Rattle.elf_image.specs.Image.{image_of, IsSegment};
-ghost use Rattle.elf_image.specs.File.{file_of, header_bytes, segment_header, table_bytes, file_size};
+ghost use Rattle.elf_image.specs.File.{file_of, ident_bytes, header_bytes, segment_header, table_bytes, file_size};
 
+use crate::headers::{
+    CLASS_64, EXECUTABLE, FILE_HEADER, LITTLE_ENDIAN, LOAD, MAGIC, PROGRAM_HEADER, RISC_V, VERSION,
+};
 use crate::program::{Image, Segment};
 use sim_base::NoMemory;
 use std::alloc::Global;
-
-/// The first 24 bytes of the file header: `e_ident`, and then an executable file for RISC-V, version 1.
-const FRONT: [u8; 24] = [
-    0x7F, 0x45, 0x4C, 0x46, 2, 1, 1, 0, 0, 0, 0, 0, 0, 0, 0, 0, 2, 0, 0xF3, 0, 1, 0, 0, 0,
-];
-
-/// The 24 bytes past the entry: the table's place 64, no section headers, no flags, and the sizes of the
-/// file header and of a program header.
-const MIDDLE: [u8; 24] = [
-    64, 0, 0, 0, 0, 0, 0, 0, 0, 0, 0, 0, 0, 0, 0, 0, 0, 0, 0, 0, 64, 0, 56, 0,
-];
-
-/// How many bytes the file header and one program header have.
-const FILE_HEADER: u64 = 64;
-
-const PROGRAM_HEADER: u64 = 56;
 
 /// How many bytes the file of a program has: the headers', and those of each segment.
 pub fn file_size(image: &Image) -> u64
@@ -37,7 +24,7 @@ fn size_of(segments: &[Segment]) -> u64
     requires each { All IsSegment segments.now }
     ensures { result ≡ file_size segments.now }
 {
-    let mut size = FILE_HEADER + PROGRAM_HEADER * segments.len() as u64;
+    let mut size = (FILE_HEADER + PROGRAM_HEADER * segments.len()) as u64;
     for segment in segments {
         size += segment.bytes.len() as u64;
     }
@@ -65,10 +52,44 @@ fn push_file_header(file: &mut Vec<u8>, entry: u64, count: usize) -> Result<(), 
     requires { count < 2 ^ 16 }
     ensures { OnOk result (file.new.items ≡ file.old.items ++ header_bytes entry count) }
 {
-    push(file, &FRONT)?;
-    push(file, &entry.to_le_bytes())?;
-    push(file, &MIDDLE)?;
-    push(file, &(count as u16).to_le_bytes())?;
+    push_ident(file)?;
+    push_kind(file)?;
+    push_number(file, entry)?;
+    push_number(file, FILE_HEADER as u64)?;
+    push(file, &[0; 12])?;
+    push_sizes(file, count as u16)?;
+    Ok(())
+}
+
+/// Appends e_ident, whose last nine bytes are zero.
+#[tactic(auto, unfolding(crate::specs::File::ident_bytes))]
+fn push_ident(file: &mut Vec<u8>) -> Result<(), NoMemory>
+    ensures { OnOk result (file.new.items ≡ file.old.items ++ ident_bytes) }
+{
+    push(file, &MAGIC)?;
+    push(file, &[CLASS_64, LITTLE_ENDIAN, VERSION])?;
+    push(file, &[0; 9])?;
+    Ok(())
+}
+
+/// Appends e_type, e_machine and e_version.
+fn push_kind(file: &mut Vec<u8>) -> Result<(), NoMemory>
+    ensures { OnOk result (file.new.items ≡ file.old.items ++ (little_bytes 2 2 ++ little_bytes 2 243 ++ little_bytes 4 1)) }
+{
+    push(file, &EXECUTABLE.to_le_bytes())?;
+    push(file, &RISC_V.to_le_bytes())?;
+    push(file, &u32::from(VERSION).to_le_bytes())?;
+    Ok(())
+}
+
+/// Appends the sizes of the file header and of a program header, the number of those, and three fields on
+/// sections, of which there are none.
+fn push_sizes(file: &mut Vec<u8>, count: u16) -> Result<(), NoMemory>
+    ensures { OnOk result (file.new.items ≡ file.old.items ++ (little_bytes 2 64 ++ little_bytes 2 56 ++ little_bytes 2 count ++ replicate 6 0)) }
+{
+    push(file, &(FILE_HEADER as u16).to_le_bytes())?;
+    push(file, &(PROGRAM_HEADER as u16).to_le_bytes())?;
+    push(file, &count.to_le_bytes())?;
     push(file, &[0; 6])?;
     Ok(())
 }
@@ -93,7 +114,7 @@ fn push_table(file: &mut Vec<u8>, segments: &[Segment]) -> Result<(), NoMemory>
     requires { file_size segments.now ≤ 16777216 }
     ensures { OnOk result (file.new.items ≡ file.old.items ++ table_bytes (64 + 56 * length segments.now) segments.now) }
 {
-    let mut at = FILE_HEADER + PROGRAM_HEADER * segments.len() as u64;
+    let mut at = (FILE_HEADER + PROGRAM_HEADER * segments.len()) as u64;
     for segment in segments {
         push_segment_header(file, at, segment)?;
         at += segment.bytes.len() as u64;
@@ -105,7 +126,7 @@ fn push_table(file: &mut Vec<u8>, segments: &[Segment]) -> Result<(), NoMemory>
 fn push_segment_header(file: &mut Vec<u8>, at: u64, segment: &Segment) -> Result<(), NoMemory>
     ensures { OnOk result (file.new.items ≡ file.old.items ++ segment_header at segment.now) }
 {
-    push(file, &[1, 0, 0, 0])?;
+    push(file, &LOAD.to_le_bytes())?;
     push(file, &segment.flags.to_le_bytes())?;
     push_number(file, at)?;
     push_number(file, segment.vaddr)?;

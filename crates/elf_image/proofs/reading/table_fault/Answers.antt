@@ -6,11 +6,7 @@ pub returns-then-has_wrong_load : goal.returns-then-has_wrong_load
 returns-then-has_wrong_load c =
     rw (right_table c.args.bytes.now c.args.loaded.now c.requires.right c.requires.loaded, ← c.has_wrong_load.ensures, c.if-has_wrong_load.true)
 
-pub returns-in-Some : goal.returns-in-Some
-returns-in-Some c =
-    rw (right_table c.args.bytes.now c.args.loaded.now c.requires.right c.requires.loaded, ← c.has_wrong_load.ensures, c.if-has_wrong_load.false, ← c.kind_fault.ensures c.args.bytes.now (sym c.requires.table), c.in-Some.is)
-
 pub returns : goal.returns
 returns c =
-    rw (right_table c.args.bytes.now c.args.loaded.now c.requires.right c.requires.loaded, ← c.has_wrong_load.ensures, c.if-has_wrong_load.false, ← c.kind_fault.ensures c.args.bytes.now (sym c.requires.table), c.in_default.is)
-    (c.program_fault.ensures c.args.bytes.now (sym c.entry_of.ensures) (sym c.requires.loaded))
+    rw (right_table c.args.bytes.now c.args.loaded.now c.requires.right c.requires.loaded, ← c.has_wrong_load.ensures, c.if-has_wrong_load.false)
+    (c.kind_fault.ensures c.args.bytes.now (sym c.requires.table))
