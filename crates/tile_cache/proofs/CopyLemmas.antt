@@ -1,6 +1,6 @@
 -- How each change of a cache shows at each line, and that a victim is another line of the cache.
-use Rattle.std.proofs.Common.{◌≡◌, ℕ, zero, suc, ◌%◌, ◌<◌, replicate, true, false, List, [], ◌∷◌, length, get_or, Some, None, refl, sym, ap, ◌∙◌, inl, inr}
-use Rattle.std.proofs.lemmas.Bool.{cases_Bool, cases_eq, eqb-true, eq-eqb, cond-true, cond-false, false_from_ne_true}
+use Rattle.std.proofs.Common.{◌≡◌, ℕ, zero, suc, ◌%◌, ◌<◌, ◌≤◌, arith, replicate, true, false, List, [], ◌∷◌, length, get_or, Some, None, refl, sym, ap, ◌∙◌, inl, inr}
+use Rattle.std.proofs.lemmas.Bool.{cases_Bool, cases_eq, eqb-true, eq-eqb, lt-ltb, cond-true, cond-false, false_from_ne_true}
 use Rattle.std.proofs.lemmas.Option.{none-some, same_Some, some_pair_parts}
 use Rattle.std.proofs.lemmas.List.{length-set, get_or-set_same, get_or-set_other}
 use Rattle.std.specs.Prelude.{Option, find, nat_lt, ◌==◌, if◌then◌else◌}
@@ -9,9 +9,9 @@ use Rattle.sim_base.specs.declared.lines.LineData.{LineData}
 use Rattle.tile_cache.specs.declared.ways.Hold.{Hold}
 use Rattle.tile_cache.specs.declared.ways.Hold.TheVariants.{S, M}
 use Rattle.tile_cache.specs.declared.ways.Way.{Way}
-use Rattle.tile_cache.specs.Cache.{Sets, empty_cache, set_number, set_of, with_set, has_line, way_of, others, with_line_changed, with_change, touched, line_with, way_written, way_downgraded, last_way, line_and_hold}
+use Rattle.tile_cache.specs.Cache.{Sets, empty_cache, set_number, set_of, with_set, has_line, way_of, others, with_line_changed, with_change, with_front, without_line, touched, line_with, way_written, way_downgraded, last_way, line_and_hold, victim_of, LeavesRoom, IsCache}
 use Rattle.tile_cache.specs.Copy.{Copy, absent, shared, held_as, copy_in, copy_of, with_data, as_shared, FrontShows, DropShows, TouchHides, WriteShows, DowngradeShows, VictimIsHeld, EmptyShows, HeldShows, AbsentShows}
-use Rattle.tile_cache.proofs.SetLemmas.{KeepsLine, All-last, find-last, other_line, find-absent, find-changed, find-changed_other, find-others, found_line, others-lacks}
+use Rattle.tile_cache.proofs.SetLemmas.{KeepsLine, All-last, find-last, other_line, find-absent, find-changed, find-changed_other, find-others, found_line, length-others_found, others-lacks}
 use Rattle.tile_cache.proofs.CacheLemmas.{set_number-within, victim_among}
 
 -- the way that a cache with another set has of a line
@@ -47,6 +47,22 @@ copy_of-change c line k new found copy h here is there =
       | inl e ↦ rw e (ap copy_in (ways ∙ cond-true (k == line) found _ e) ∙ is ∙ ap copy (sym (eqb-true k line e)))
       | inr ne ↦ rw ne (ap copy_in (ways ∙ cond-false (k == line) found _ ne))
     ]
+
+-- the way at the front is there
+pub front_way : (c : Sets) (way : Way) → 0 < length c.sets → way_of (with_front c way) way.line ≡ Some way
+front_way c way h =
+    let here : has_line way.line way ≡ true = eq-eqb way.line way.line refl in
+    way_of-with_set c way.line way.line (way ∷ others way.line (set_of c way.line)) (Some way) h (λ _. rw here refl) (λ ne. absurd (ne refl))
+
+touched_way_from : (c : Sets) (line : ℕ) (found : Option Way) → way_of c line ≡ found → 0 < length c.sets → way_of (touched c line) line ≡ way_of c line
+touched_way_from c line None e h = rw e e
+touched_way_from c line (Some way) e h =
+    let same : way.line ≡ line = found_line line (set_of c line) way e in
+    rw e (ap (way_of (with_front c way)) (sym same) ∙ front_way c way h)
+
+-- a touched line is there as before
+pub touched_way : (c : Sets) (line : ℕ) → 0 < length c.sets → way_of (touched c line) line ≡ way_of c line
+touched_way c line h = touched_way_from c line _ refl h
 
 pub front_shows : FrontShows
 front_shows c way k h =
@@ -132,6 +148,29 @@ victim_is_held c line victim hold known e =
       ap (copy_of c) (sym found.3) ∙ ap copy_in here ∙ ap (λ h. held_as h way.content) found.4,
       false_from_ne_true _ (λ same. let at : way.line ≡ line = found.3 ∙ eqb-true victim line same in none-some way (sym found.1 ∙ ap (way_of c) (sym at) ∙ here)),
     )
+
+roomy : (c : Sets) (k : ℕ) (found : Option Way) → way_of c k ≡ found → length (set_of c k) < c.ways → victim_of c k ≡ None
+roomy c k None e less = let test : nat_lt (length (set_of c k)) c.ways ≡ true = lt-ltb _ _ less in rw (e, test) refl
+roomy c k (Some way) e less = rw e refl
+
+-- the set of a line after another line of it left
+left_set : (c : Sets) (line k : ℕ) → 0 < length c.sets → set_number c line ≡ set_number c k → set_of (without_line c line) k ≡ others line (set_of c k)
+left_set c line k h same =
+    rw (length-set c.sets (set_number c line) (others line (set_of c line)), ← same) (get_or-set_same c.sets (set_number c line) (others line (set_of c line)) [] (set_number-within c line h))
+
+pub victim_leaves : (c : Sets) (line : ℕ) → IsCache c → LeavesRoom c line (without_line c line)
+victim_leaves c line known k hold e =
+    let found = victim_way c k line hold _ refl e in
+    let way : Way = found.0 in
+    let ways : List Way = set_of c k in
+    let own : set_number c way.line ≡ set_number c k = All-last (λ w. set_number c w.line ≡ set_number c k) ways way (known.own (set_number c k)) found.2 in
+    let same : set_number c line ≡ set_number c k = ap (set_number c) (sym found.3) ∙ own in
+    let here : find (has_line line) ways ≡ Some way = ap (λ n. find (has_line n) ways) (sym found.3) ∙ find-last ways way (known.once (set_number c k)) found.2 in
+    let less : length (others line ways) < length ways = length-others_found line ways way here in
+    let room : length ways ≤ c.ways = known.room (set_number c k) in
+    let fewer : length (others line ways) < c.ways = omega arith in
+    let left : length (set_of (without_line c line) k) ≡ length (others line ways) = ap length (left_set c line k known.some_set same) in
+    roomy (without_line c line) k _ refl (rw left fewer)
 
 -- a cache without lines
 

@@ -113,6 +113,10 @@ victim_of c line =
     else (if nat_lt (length (set_of c line)) c.ways then None
     else option_map line_and_hold (last_way (set_of c line)))
 
+-- a line that leaves makes room for each line whose victim it is
+abbrev pub LeavesRoom : Sets → ℕ → Sets → Type 0
+LeavesRoom old line new = (k : ℕ) (hold : Hold) → victim_of old k ≡ Some (line, hold) → victim_of new k ≡ None
+
 -- whether some line stands twice in a set
 abbrev pub has_repeat : List Way → Bool
 has_repeat [] = false

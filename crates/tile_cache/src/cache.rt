@@ -1,6 +1,7 @@
 ghost use Rattle.std.specs.Prelude.{◌≡◌, ◌≤◌, ◌<◌, ◌+◌, IsSome, IfOk, Some, None, length};
+ghost use Rattle.std.specs.Option.{option_copied};
 ghost use Rattle.tile_cache.specs.Kept.{cache_of, IsKept};
-ghost use Rattle.tile_cache.specs.Cache.{IsCache, set_number, set_of, empty_cache, hold_of, content_of, touched, written, victim_of, placed, without_line, downgraded};
+ghost use Rattle.tile_cache.specs.Cache.{IsCache, set_number, set_of, empty_cache, way_of, hold_of, content_of, touched, written, victim_of, LeavesRoom, placed, without_line, downgraded};
 
 use crate::set::Set;
 use crate::ways::{Hold, Way};
@@ -48,6 +49,13 @@ impl Cache {
         self.set(line).find(line).map(|way| way.hold)
     }
 
+    /// Lends a line, with how it is held, if it is there.
+    pub fn get(&self, line: Line) -> Option<&Way>
+        ensures { option_copied result ≡ way_of self.now line }
+    {
+        self.set(line).find(line)
+    }
+
     /// Lends what a line holds that is there.
     pub fn content(&self, line: Line) -> &LineData
         requires { IsSome (hold_of self.now line) }
@@ -62,7 +70,8 @@ impl Cache {
     /// Makes a line that is there the most recent of its set.
     pub fn touch(&mut self, line: Line)
         requires { IsSome (hold_of self.old line) }
-        ensures { self.new ≡ touched self.old line }
+        ensures cache { self.new ≡ touched self.old line }
+        ensures way { way_of self.new line ≡ way_of self.old line }
     {
         let number = self.number(line);
         self.sets[number].touch(line);
@@ -97,7 +106,8 @@ impl Cache {
     /// or has room.
     pub fn place(&mut self, line: Line, hold: Hold, content: LineData)
         requires { victim_of self.old line ≡ None }
-        ensures { self.new ≡ placed self.old line hold content }
+        ensures cache { self.new ≡ placed self.old line hold content }
+        ensures way { way_of self.new line ≡ Some (record { line = line; hold = hold; content = content }) }
     {
         let number = self.number(line);
         let set = &mut self.sets[number];
@@ -113,6 +123,7 @@ impl Cache {
     pub fn drop_line(&mut self, line: Line) -> Option<LineData>
         ensures content { result ≡ content_of self.old line }
         ensures cache { self.new ≡ without_line self.old line }
+        ensures room { LeavesRoom self.old line self.new }
     {
         let number = self.number(line);
         self.sets[number].take(line).map(|way| way.content)

@@ -9,7 +9,7 @@ mod ways;
 
 pub use cache::Cache;
 pub use laws::{answers_tell, changes_show};
-pub use ways::Hold;
+pub use ways::{Hold, Way};
 
 #[cfg(test)]
 mod tests;

@@ -11,8 +11,11 @@ pub enum Hold {
 
 /// A line in a set.
 #[derive(Clone, Copy)]
-pub(crate) struct Way {
-    pub(crate) line: Line,
-    pub(crate) hold: Hold,
-    pub(crate) content: LineData,
+pub struct Way {
+    /// The line.
+    pub line: Line,
+    /// How it is held.
+    pub hold: Hold,
+    /// What it holds.
+    pub content: LineData,
 }

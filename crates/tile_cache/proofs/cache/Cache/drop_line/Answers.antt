@@ -1,8 +1,9 @@
 -- The line leaves its set.
 use Rattle.std.proofs.Common.{ap, ◌∙◌, arith}
-use Rattle.tile_cache.specs.Cache.{others, with_set}
+use Rattle.tile_cache.specs.Cache.{Sets, others, victim_of, with_set}
 use Rattle.tile_cache.proofs.CacheLemmas.{IsSet-others}
-use Rattle.tile_cache.proofs.KeptLemmas.{IsSet-here, kept-set, memory_here, set_at, set_of-here, view-set}
+use Rattle.tile_cache.proofs.CopyLemmas.{victim_leaves}
+use Rattle.tile_cache.proofs.KeptLemmas.{IsSet-here, is_cache, kept-set, memory_here, set_at, set_of-here, view-set}
 use Rattle.tile_cache.proofs.cache.Cache.drop_line.Goals as goal
 
 pub take-requires : goal.take-requires
@@ -19,3 +20,8 @@ returns-clause-cache c =
     let at = set_at c.self.invariant c.self.view_is c.number-number.ensures.number c.number-number.ensures.within c.index_mut.ensures.value in
     view-set at c.take.new.self
     ∙ ap (with_set c.args.self.now c.args.line) (c.take.ensures.ways ∙ ap (others c.args.line) (set_of-here at))
+
+pub returns-clause-room : goal.returns-clause-room
+returns-clause-room c =
+    let at = set_at c.self.invariant c.self.view_is c.number-number.ensures.number c.number-number.ensures.within c.index_mut.ensures.value in
+    λ k hold e. ap (λ (d : Sets). victim_of d k) (returns-clause-cache c) ∙ victim_leaves c.args.self.now c.args.line (is_cache at) k hold e

@@ -1,8 +1,9 @@
 -- The line comes to the front of its set, which has room.
 use Rattle.std.proofs.Common.{length, ap, refl, ◌∙◌, ◌∷◌, arith}
-use Rattle.tile_cache.specs.Cache.{others, with_set}
+use Rattle.tile_cache.specs.Cache.{Sets, others, way_of, with_set}
 use Rattle.tile_cache.proofs.CacheLemmas.{IsSet-front}
-use Rattle.tile_cache.proofs.KeptLemmas.{IsSet-here, room-here, ways-same, kept-set, memory_here, set_at, set_of-here, view-set}
+use Rattle.tile_cache.proofs.CopyLemmas.{front_way}
+use Rattle.tile_cache.proofs.KeptLemmas.{IsSet-here, is_cache, room-here, ways-same, kept-set, memory_here, set_at, set_of-here, view-set}
 use Rattle.tile_cache.proofs.cache.Cache.place.Goals as goal
 
 pub push_front-requires : goal.push_front-requires
@@ -20,9 +21,15 @@ invariant_of-self c =
     kept-set at c.push_front.new.self (omega (arith, c.take.ensures.memory, c.push_front.ensures.memory))
     (rw (c.push_front.ensures.ways, c.take.ensures.ways) (IsSet-front _ c.args.line _ _ refl (room-here at c.requires) (IsSet-here at)))
 
-pub returns : goal.returns
-returns c =
+pub returns-clause-cache : goal.returns-clause-cache
+returns-clause-cache c =
     let at = set_at c.self.invariant c.self.view_is c.number-number.ensures.number c.number-number.ensures.within c.index_mut-set.ensures.value in
     view-set at c.push_front.new.self
     ∙ ap (with_set c.args.self.now c.args.line)
     (c.push_front.ensures.ways ∙ ap (λ ways. record { line = c.args.line; hold = c.args.hold; content = c.args.content } ∷ ways) (c.take.ensures.ways ∙ ap (others c.args.line) (set_of-here at)))
+
+pub returns-clause-way : goal.returns-clause-way
+returns-clause-way c =
+    let at = set_at c.self.invariant c.self.view_is c.number-number.ensures.number c.number-number.ensures.within c.index_mut-set.ensures.value in
+    ap (λ (d : Sets). way_of d c.args.line) (returns-clause-cache c)
+    ∙ front_way c.args.self.now (record { line = c.args.line; hold = c.args.hold; content = c.args.content }) (is_cache at).some_set

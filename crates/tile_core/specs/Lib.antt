@@ -1,0 +1,7 @@
+pub mod Gathering
+pub mod Core
+pub mod Plan
+pub use Rattle.rv_hart.specs.Step
+pub use Rattle.rv_hart.specs.Start
+pub use Rattle.rv_hart.specs.Reservation
+pub use Rattle.elf_image.specs.Layout
