@@ -1,0 +1,97 @@
+use crate::{Epochs, Probes, may_go};
+use sim_base::{Config, NodeId};
+use std::alloc::Global;
+use std::test::Fail;
+use wire_msg::{Msg, Out};
+
+/// Receivers with the limits that they are told.
+fn limits(alloc: Global, out: &Out) -> Result<Vec<(NodeId, u64)>, Fail> {
+    let mut told = Vec::new(alloc);
+    for (tile, msg) in out {
+        if let Msg::Limit { limit } = msg {
+            told.push((*tile, *limit))?;
+        }
+    }
+    Ok(told)
+}
+
+/// Threads 0 to 2 report one after another, and 2 once more, from another tile. The quantum is 1000 cycles.
+#[test]
+fn the_epoch_rises_when_all_have_reached(rt: HostRuntime) -> Result<(), Fail> {
+    let alloc = rt.alloc();
+    let mut epochs = Epochs::new(alloc, &Config::defaults())?;
+    for thread in [2, 1, 2] {
+        epochs.join(thread)?;
+    }
+    let mut out = Vec::new(alloc);
+    let mut early = false;
+    for (thread, tile) in [(2, 9), (0, 3), (2, 6)] {
+        epochs.reached(thread, tile);
+        early |= epochs.advance(&mut out)?;
+    }
+    epochs.reached(1, 4);
+    let first = epochs.limit();
+    let raised = epochs.advance(&mut out)?;
+    let told = limits(alloc, &out)?;
+    let are_told = told[..] == [(3, 2000), (4, 2000), (6, 2000)];
+    let is_wanted = first == 1000 && !early && raised && are_told && epochs.limit() == 2000;
+    assert!(rt; is_wanted);
+    Ok(())
+}
+
+/// A thread that left isn't waited for, and nobody waits where nobody is active.
+#[test]
+fn who_left_is_not_waited_for(rt: HostRuntime) -> Result<(), Fail> {
+    let alloc = rt.alloc();
+    let mut epochs = Epochs::new(alloc, &Config::defaults())?;
+    epochs.join(1)?;
+    epochs.reached(1, 5);
+    epochs.leave(0);
+    let mut out = Vec::new(alloc);
+    let raised = epochs.advance(&mut out)?;
+    epochs.leave(1);
+    let again = epochs.advance(&mut out)?;
+    let is_wanted = raised && !again && out.len() == 1;
+    assert!(rt; is_wanted);
+    Ok(())
+}
+
+#[test]
+fn a_tile_may_go_on(rt: HostRuntime) {
+    let rows = [
+        ("ten ahead", 50, 40, true, 1, true),
+        ("eleven ahead", 51, 40, true, 1, false),
+        (
+            "far ahead of a tile that isn't running",
+            50,
+            0,
+            false,
+            1,
+            true,
+        ),
+        ("far ahead, at the seventh reply", 50, 0, true, 7, false),
+        ("far ahead, at the eighth reply", 50, 0, true, 8, true),
+        ("far behind", 50, u64::MAX, true, 1, true),
+    ];
+    for (name, own, partner, running, replies, wanted) in rows {
+        let is_wanted = may_go(own, partner, running, 10, replies) == wanted;
+        assert!(rt; is_wanted, "{name}");
+    }
+}
+
+/// Stream 54 of seed 42 is the one of the demonstration of PCG's C library: 0xa15c02b7, 0x7b47f409, 0xba1d3330,
+/// 0x83d2f293 and so on. Tile 53 of 64 has it, and asks by its words modulo 63.
+#[test]
+fn probes_follow_the_reference_stream(rt: HostRuntime) -> Result<(), Fail> {
+    let config = Config {
+        tiles: 64,
+        seed: 42,
+        ..Config::defaults()
+    };
+    config.check().map_err(|_| "refused")?;
+    let mut probes = Probes::new(&config, 53);
+    let drawn = [probes.draw(), probes.draw(), probes.draw(), probes.draw()];
+    let is_wanted = drawn == [61, 39, 20, 7];
+    assert!(rt; is_wanted);
+    Ok(())
+}
