@@ -1,111 +1,95 @@
--- The legal action of a machine of one thread is the only one that is legal.
-use Rattle.std.proofs.Common.{◌≡◌, ℕ, zero, suc, List, [], ◌∷◌, length, Bool, true, false, cond, not, ◌&&◌, refl, ap, subst, arith}
-use Rattle.std.specs.Prelude.{Option, Some, None, IsSome, is_some, nat_lt}
+-- The legal action of a machine of one thread, by its thread's status, and that it is the only one.
+use Rattle.std.proofs.Common.{◌≡◌, ℕ, ◌==◌, ◌&&◌, zero, suc, List, [], ◌∷◌, length, Bool, true, false, cond, not, refl, ap, sym, ◌∙◌, arith}
+use Rattle.std.specs.Prelude.{Option, Some, None, IsSome, is_some, find, nat_lt, slice_get, slice_set}
 use Rattle.std.specs.Option.{option_map}
-use Rattle.std.specs.Ordering.{nat_cmp}
-use Rattle.std.specs.FinMap.{FinMap}
+use Rattle.std.proofs.lemmas.Bool.Decides.{nat_tests}
 use Rattle.sim_base.specs.declared.actions.Action.{Action}
 use Rattle.sim_base.specs.declared.actions.Action.TheVariants.{Exec, FailSc, Load, Serve, Return, Begin}
 use Rattle.sim_base.specs.declared.ends.End.{End}
 use Rattle.elf_image.specs.Layout.{Setup}
-use Rattle.rv_exec.specs.Access.{Asked}
-use Rattle.rv_exec.specs.declared.meaning.Meaning.{Meaning}
-use Rattle.rv_exec.specs.declared.meaning.Meaning.TheVariants.{Next, Access, Call, Trap}
-use Rattle.wire_msg.specs.declared.calls.Call.TheVariants.{ExitGroup}
+use Rattle.rv_hart.specs.declared.reservations.Span.{Span}
+use Rattle.rv_hart.specs.declared.steps.Step.{Step}
+use Rattle.rv_hart.specs.declared.steps.Step.TheVariants.{Access}
+use Rattle.rv_hart.specs.Reservation.{is_conditional}
+use Rattle.serving.specs.declared.control_data.Request.{Request}
 use Rattle.flat_machine.specs.declared.threads.Thread.{Thread}
 use Rattle.flat_machine.specs.declared.threads.Status.{Status}
-use Rattle.flat_machine.specs.declared.threads.Status.TheVariants.{Ready, Writing, Asked as AskedCall, Answered, Left, Trapped}
-use Rattle.flat_machine.specs.State.{State}
-use Rattle.flat_machine.specs.Action.{Change, act, conditional, conditional_of, executed_as, is_granted, is_conditional, next_meaning}
-use Rattle.flat_machine.specs.Run.{legal_action, action_by, exec_unless, serve_before, MadeIsLegal, LegalIsMade}
+use Rattle.flat_machine.specs.declared.threads.Status.TheVariants.{Ready, Writing, Asked, Answered, Left, Trapped}
+use Rattle.flat_machine.specs.State.{State, with_thread}
+use Rattle.flat_machine.specs.Reservation.{others_end}
+use Rattle.flat_machine.specs.Action.{Change, act, step_of, executed, executed_by, executed_by_step, conditional_rd, failed_conditional, with_change}
+use Rattle.flat_machine.specs.Run.{is_legal, first_legal, legal_action, onward, MadeIsLegal, LegalIsMade}
+use Rattle.flat_machine.specs.Inner.{action_by, action_of, exec_unless, serve_before, IsAloneReady}
+
+-- what is chosen at a step: it is executed unless it is a store-conditional
+abbrev chosen_at : State → Thread → Step → Option Action
+chosen_at s t step =
+    cond (not (is_some (option_map (with_thread s 0) (option_map (failed_conditional t) (conditional_rd step)))))
+    (cond (is_some (option_map (with_change s 0) (executed_by_step s.memory t step))) (Some (Exec 0)) None) None
+
+chosen_by_step : (s : State) (t : Thread) (step : Step) → chosen_at s t step ≡ exec_unless (conditional_rd step)
+chosen_by_step s t (Access access) = by_kind (is_conditional access.op) where
+  by_kind : (b : Bool) → cond (not (is_some (option_map (with_thread s 0) (option_map (failed_conditional t) (cond b (Some access.rd) None))))) (Some (Exec 0)) None ≡ exec_unless (cond b (Some access.rd) None)
+  by_kind true = refl
+  by_kind false = refl
+chosen_by_step s t _ = refl
+
+-- what is chosen at a write: its next byte while some are left, and else it is served where there is no end
+written_on : (f : Thread → State) (g : Request → State) (b : Bool) (t : Thread) (request : Request)
+    → cond (is_some (option_map f (cond b (Some t) None))) (Some (Load 0)) (cond (is_some (option_map g (cond b None (Some request)))) (Some (Serve 0)) None)
+    ≡ cond b (Some (Load 0)) (Some (Serve 0))
+written_on f g true t request = refl
+written_on f g false t request = refl
+
+written_after : (f : Thread → State) (b : Bool) (t : Thread) → cond (is_some (option_map f (cond b (Some t) None))) (Some (Load 0)) None ≡ cond b (Some (Load 0)) None
+written_after f true t = refl
+written_after f false t = refl
 
 module _ (w : Setup) (base : State) (t : Thread) where
-  -- a state whose thread 0 has this status
-  abbrev in_status : Status → List Thread → Option End → State
-  in_status status others ended = record base { threads = record t { status = status } ∷ others; ended = ended }
+  -- a state with this thread alone, in this status
+  abbrev alone : Status → Option End → State
+  alone status ended = record base { threads = record t { status = status } ∷ []; ended = ended }
 
-  -- the same action as a legal one
-  as_legal : (s : State) (a b : Action) → IsSome (act w s a) → Some a ≡ Some b → IsSome (act w s b)
-  as_legal s a b h e = let same : a ≡ b = cc in subst (λ x. IsSome (act w s x)) same h
-
-  -- a write goes on with a byte while some are left, and else is served
-  by_progress : (s : State) (ended : Option End) (a : Action) (b : Bool) → (b ≡ true → IsSome (act w s (Load 0)))
-      → (b ≡ false → (a : Action) → serve_before ended ≡ Some a → IsSome (act w s a)) → cond b (Some (Load 0)) (serve_before ended) ≡ Some a → IsSome (act w s a)
-  by_progress s ended a true load serve h = as_legal s (Load 0) a (load refl) h
-  by_progress s ended a false load serve h = serve refl a h
-
-  writing_served : (address len : ℕ) (bytes : List ℕ) (others : List Thread) (ended : Option End) → nat_lt (length bytes) len ≡ false
-      → (a : Action) → serve_before ended ≡ Some a → IsSome (act w (in_status (Writing address len bytes) others ended) a)
-  writing_served address len bytes others None e a h = as_legal (in_status (Writing address len bytes) others None) (Serve 0) a (rw e refl) h
-  writing_served address len bytes others (Some end) e a h = cc
-
-  -- an instruction that isn't a store-conditional past its tests is done
-  done_unless : (memory : FinMap nat_cmp ℕ) (number : ℕ) (thread : Thread) (m : Meaning) → conditional_of w m ≡ None → IsSome (executed_as w memory number thread m)
-  done_unless memory number thread (Next rd value pc) e = refl
-  done_unless memory number thread Call e = refl
-  done_unless memory number thread (Trap cause) e = refl
-  done_unless memory number thread (Access access) e = by_tests (is_granted w access) (is_conditional access.op) _ _ _ _ e where
-    by_tests : (granted conditional lacks : Bool) (some done : Change) (x : Asked) → cond (conditional && granted) (Some x) None ≡ None
-        → IsSome (cond (not granted) (Some some) (cond (conditional && lacks) None (Some done)))
-    by_tests false conditional lacks some done x e = refl
-    by_tests true false lacks some done x e = refl
-    by_tests true true lacks some done x e = cc
-
-  exec_legal : (others : List Thread) (ended : Option End) (a : Action) → let s : State = in_status Ready others ended in
-      exec_unless (conditional w (record t { status = Ready })) ≡ Some a → IsSome (act w s a)
-  exec_legal others ended a h =
-      let s = in_status Ready others ended in
-      let ready : Thread = record t { status = Ready } in
-      let m : Meaning = next_meaning w ready in
-      (elim (conditional_of w m) as (λ o. conditional_of w m ≡ o → exec_unless o ≡ Some a → IsSome (act w s a)) [
-        | None ↦ λ none e. as_legal s (Exec 0) a (mapped_some _ _ (done_unless base.memory 0 ready m none)) e
-        | Some access ↦ λ some e. cc
-      ]) refl h
-    where
-      mapped_some : (f : Change → State) (o : Option Change) → IsSome o → IsSome (option_map f o)
-      mapped_some f None h = h
-      mapped_some f (Some change) h = refl
-
-  legal : (status : Status) (others : List Thread) (ended : Option End) (a : Action)
-      → action_by w (record t { status = status }) ended status ≡ Some a → IsSome (act w (in_status status others ended) a)
-  legal Ready others ended a h = exec_legal others ended a h
-  legal (Writing address len bytes) others ended a h =
-      let s = in_status (Writing address len bytes) others ended in
-      by_progress s ended a (nat_lt (length bytes) len) (λ e. rw e refl) (λ e b g. writing_served address len bytes others ended e b g) h
-  legal (AskedCall (ExitGroup code)) others None a h = as_legal (in_status (AskedCall (ExitGroup code)) others None) (Serve 0) a refl h
-  legal (AskedCall (ExitGroup code)) others (Some end) a h = cc
-  legal (Answered value) others ended a h = as_legal (in_status (Answered value) others ended) (Return 0) a refl h
-  legal (Left code) others None a h = as_legal (in_status (Left code) others None) (Serve 0) a refl h
-  legal (Left code) others (Some end) a h = cc
-  legal (Trapped cause at) others None a h = as_legal (in_status (Trapped cause at) others None) (Serve 0) a refl h
-  legal (Trapped cause at) others (Some end) a h = cc
-  legal _ others ended a h = cc
-
-  load_left : {X : Type 0} (b : Bool) (next : X) (f : X → State) (a d : Option Action) → is_some (option_map f (cond b (Some next) None)) ≡ true → cond b a d ≡ a
-  load_left true next f a d h = refl
-  load_left false next f a d h = cc
-
-  none_left : (b : Bool) (next : State) (a d : Option Action) → is_some (cond b None (Some next)) ≡ true → cond b a d ≡ d
-  none_left true next a d h = cc
-  none_left false next a d h = refl
+  by_status : (status : Status) (ended : Option End) → legal_action w (alone status ended) ≡ action_by w (record t { status = status }) ended status
+  unfolding legal_action
+  by_status Ready None = chosen_by_step (alone Ready None) (record t { status = Ready }) (step_of w 0 (record t { status = Ready }))
+  by_status Ready (Some end) = chosen_by_step (alone Ready (Some end)) (record t { status = Ready }) (step_of w 0 (record t { status = Ready }))
+  by_status (Writing addr len bytes) None = written_on _ _ (nat_lt (length bytes) len) _ _
+  by_status (Writing addr len bytes) (Some end) = written_after _ (nat_lt (length bytes) len) _
+  by_status (Asked call) None = refl
+  by_status (Asked call) (Some end) = refl
+  by_status (Left code) None = refl
+  by_status (Left code) (Some end) = refl
+  by_status (Trapped cause pc) None = refl
+  by_status (Trapped cause pc) (Some end) = refl
+  by_status _ None = refl
+  by_status _ (Some end) = refl
 
   not_both : (o : Option State) → o ≡ None → IsSome o → ⊥
   not_both None e h = cc
   not_both (Some s) e h = cc
 
-  unmapped : (f : Asked → Thread) (g : Thread → State) (o : Option Asked) → option_map g (option_map f o) ≡ None → o ≡ None
+  unmapped : (f : ℕ → Thread) (g : Thread → State) (o : Option ℕ) → option_map g (option_map f o) ≡ None → o ≡ None
   unmapped f g None e = refl
-  unmapped f g (Some access) e = cc
+  unmapped f g (Some rd) e = cc
 
-  only : (status : Status) (ended : Option End) (a : Action) → let s : State = in_status status [] ended in
+  load_left : (b : Bool) (f : Thread → State) (next : Thread) (a d : Option Action) → is_some (option_map f (cond b (Some next) None)) ≡ true → cond b a d ≡ a
+  load_left true f next a d h = refl
+  load_left false f next a d h = cc
+
+  serve_left : (b : Bool) (g : Request → State) (request : Request) (a d : Option Action) → is_some (option_map g (cond b None (Some request))) ≡ true → cond b a d ≡ d
+  serve_left true g request a d h = cc
+  serve_left false g request a d h = refl
+
+  only : (status : Status) (ended : Option End) (a : Action) → let s : State = alone status ended in
       act w s (FailSc 0) ≡ None → ((tile : ℕ) → act w s (Begin 0 tile) ≡ None) → IsSome (act w s a)
       → action_by w (record t { status = status }) ended status ≡ Some a
-  only Ready ended (Exec zero) f b h = ap exec_unless (unmapped _ _ (conditional w (record t { status = Ready })) f)
-  only (Writing address len bytes) ended (Load zero) f b h = load_left (nat_lt (length bytes) len) _ _ (Some (Load 0)) (serve_before ended) h
-  only (Writing address len bytes) None (Serve zero) f b h = none_left (nat_lt (length bytes) len) _ (Some (Load 0)) (Some (Serve 0)) h
-  only (AskedCall (ExitGroup code)) None (Serve zero) f b h = refl
+  only Ready ended (Exec zero) f b h = ap exec_unless (unmapped _ _ (conditional_rd (step_of w 0 (record t { status = Ready }))) f)
+  only (Writing addr len bytes) ended (Load zero) f b h = load_left (nat_lt (length bytes) len) _ _ (Some (Load 0)) (serve_before ended) h
+  only (Writing addr len bytes) None (Serve zero) f b h = serve_left (nat_lt (length bytes) len) _ _ (Some (Load 0)) (Some (Serve 0)) h
+  only (Asked call) None (Serve zero) f b h = refl
   only (Left code) None (Serve zero) f b h = refl
-  only (Trapped cause at) None (Serve zero) f b h = refl
+  only (Trapped cause pc) None (Serve zero) f b h = refl
   only (Answered value) ended (Return zero) f b h = refl
   only status ended (FailSc zero) f b h = absurd (not_both _ f h)
   only status ended (FailSc (suc k)) f b h = cc
@@ -121,27 +105,95 @@ module _ (w : Setup) (base : State) (t : Thread) where
   only status ended (Return zero) f b h = cc
   only status ended (Return (suc k)) f b h = cc
 
-pub legal_action_legal : (w : Setup) (s : State) (a : Action) → legal_action w s ≡ Some a → IsSome (act w s a)
-legal_action_legal w s a h = by_threads s.threads s.ended h where
-  by_threads : (threads : List Thread) (ended : Option End) → legal_action w (record s { threads = threads; ended = ended }) ≡ Some a
-      → IsSome (act w (record s { threads = threads; ended = ended }) a)
-  by_threads [] ended h = cc
-  by_threads (t ∷ ts) ended h = legal w s t t.status ts ended a h
+-- the only legal action, by the threads
+none_there : (w : Setup) (s : State) → (length s.threads == 1) ≡ false → legal_action w s ≡ None
+unfolding legal_action
+none_there w s e = rw e refl
+
+many : (t u : Thread) (ts : List Thread) → (length (t ∷ u ∷ ts) == 1) ≡ false
+many t u ts = grind (arith, nat_tests)
+
+pub legal_is : (w : Setup) (s : State) → legal_action w s ≡ action_of w s.threads s.ended
+legal_is w s = by_threads s.threads where
+  by_threads : (threads : List Thread) → legal_action w (record s { threads = threads }) ≡ action_of w threads s.ended
+  by_threads [] = none_there w (record s { threads = [] }) refl
+  by_threads (t ∷ []) = by_status w s t t.status s.ended
+  by_threads (t ∷ u ∷ ts) = none_there w (record s { threads = t ∷ u ∷ ts }) (many t u ts)
+
+-- the action that is made is legal
+found_passes : (p : Action → Bool) (xs : List Action) (a : Action) → find p xs ≡ Some a → p a ≡ true
+found_passes p [] a e = cc
+found_passes p (x ∷ xs) a e = by_test (found_passes p xs a) (p x) refl e where
+  by_test : (find p xs ≡ Some a → p a ≡ true) → (b : Bool) → p x ≡ b → cond b (Some x) (find p xs) ≡ Some a → p a ≡ true
+  by_test later true passes e = let same : x ≡ a = cc in rw (← same) passes
+  by_test later false fails e = later e
 
 pub made_is_legal : MadeIsLegal
-made_is_legal = legal_action_legal
+unfolding legal_action
+made_is_legal w s a h = by_test (length s.threads == 1 && not (is_legal w s (FailSc 0))) h where
+  by_test : (b : Bool) → cond b (first_legal w s) None ≡ Some a → IsSome (act w s a)
+  by_test true e = found_passes (is_legal w s) (Exec 0 ∷ Load 0 ∷ Serve 0 ∷ Return 0 ∷ []) a e
+  by_test false e = cc
 
 pub legal_is_made : LegalIsMade
-legal_is_made w s a one f b h = by_threads s.threads s.ended one f b h where
-  by_threads : (threads : List Thread) (ended : Option End) → length threads ≡ 1 → let s' : State = record s { threads = threads; ended = ended } in
-      act w s' (FailSc 0) ≡ None → ((tile : ℕ) → act w s' (Begin 0 tile) ≡ None) → IsSome (act w s' a) → legal_action w s' ≡ Some a
-  by_threads [] ended one f b h = absurd (omega arith)
-  by_threads (t ∷ []) ended one f b h = only w s t t.status ended a f b h
-  by_threads (t ∷ u ∷ ts) ended one f b h = absurd (omega arith)
+legal_is_made w s a one f b h = legal_is w s ∙ by_threads s.threads one f b h where
+  by_threads : (threads : List Thread) → length threads ≡ 1 → let s' : State = record s { threads = threads } in
+      act w s' (FailSc 0) ≡ None → ((tile : ℕ) → act w s' (Begin 0 tile) ≡ None) → IsSome (act w s' a) → action_of w threads s.ended ≡ Some a
+  by_threads [] one f b h = absurd (omega arith)
+  by_threads (t ∷ []) one f b h = only w s t t.status s.ended a f b h
+  by_threads (t ∷ u ∷ ts) one f b h = absurd (omega arith)
 
 -- so it is never refused
 pub not_refused : (w : Setup) (s : State) (a : Action) → legal_action w s ≡ Some a → act w s a ≡ None → ⊥
-not_refused w s a h e = none_is_none (act w s a) e (legal_action_legal w s a h) where
+not_refused w s a h e = none_is_none (act w s a) e (made_is_legal w s a h) where
   none_is_none : (o : Option State) → o ≡ None → IsSome o → ⊥
   none_is_none None e h = cc
   none_is_none (Some s) e h = cc
+
+-- where thread 0 is alone and ready
+pub ready_stops : (w : Setup) (s : State) (t : Thread) (rd : ℕ) → s.threads ≡ t ∷ [] → t.status ≡ Ready → conditional_rd (step_of w 0 t) ≡ Some rd → legal_action w s ≡ None
+ready_stops w s t rd one ready e = legal_is w s ∙ rw (one, ready, e) refl
+
+others_none : (written : Option Span) (t : Thread) → others_end written (t ∷ []) 0 ≡ t ∷ []
+others_none None t = refl
+others_none (Some span) t = refl
+
+pub ready_goes : (w : Setup) (s : State) (t : Thread) (change : Change) → s.threads ≡ t ∷ [] → t.status ≡ Ready → conditional_rd (step_of w 0 t) ≡ None
+    → executed_by_step s.memory t (step_of w 0 t) ≡ Some change → onward w s ≡ record s { memory = change.memory; threads = change.thread ∷ [] }
+ready_goes w s t change one ready e done =
+    let legal : legal_action w s ≡ Some (Exec 0) = legal_is w s ∙ rw (one, ready, e) refl in
+    let here : slice_get s.threads 0 ≡ Some t = ap (λ ts. slice_get ts 0) one in
+    let executes : executed w s.memory 0 t ≡ Some change = ap (executed_by w s.memory 0 t) ready ∙ done in
+    rw (legal, here, executes, one, others_none change.written change.thread) refl
+
+-- the same of the thread that is read there
+same_thread : (s : State) (u : Thread) → IsAloneReady s → slice_get s.threads 0 ≡ Some u → (s.threads ≡ u ∷ []) × (u.status ≡ Ready)
+same_thread s u alone here =
+    let first : slice_get s.threads 0 ≡ Some alone.0 = ap (λ ts. slice_get ts 0) alone.1 in
+    let same : alone.0 ≡ u = cc in
+    (alone.1 ∙ ap (λ t. t ∷ []) same, ap (λ (t : Thread). t.status) (sym same) ∙ alone.2)
+
+pub ready_stopped : (w : Setup) (s : State) (u : Thread) (rd : Option ℕ) → IsAloneReady s → slice_get s.threads 0 ≡ Some u → rd ≡ conditional_rd (step_of w 0 u)
+    → is_some rd ≡ true → legal_action w s ≡ None
+ready_stopped w s u None alone here e is = cc
+ready_stopped w s u (Some rd) alone here e is = let same = same_thread s u alone here in ready_stops w s u rd same.0 same.1 (sym e)
+
+pub ready_made : (w : Setup) (s : State) (u : Thread) (rd : Option ℕ) (change : Change) → IsAloneReady s → slice_get s.threads 0 ≡ Some u → rd ≡ conditional_rd (step_of w 0 u)
+    → is_some rd ≡ false → executed_by_step s.memory u (step_of w 0 u) ≡ Some change
+    → record s { memory = change.memory; threads = slice_set s.threads 0 change.thread } ≡ onward w s
+ready_made w s u (Some rd) change alone here e is done = cc
+ready_made w s u None change alone here e is done =
+    let same = same_thread s u alone here in
+    ap (λ (threads : List Thread). let old : State = s in record old { memory = change.memory; threads = slice_set threads 0 change.thread }) same.0
+    ∙ sym (ready_goes w s u change same.0 same.1 (sym e) done)
+
+-- the legal action where there is one thread, and where there isn't
+pub alone_is : (w : Setup) (s : State) (t : Thread) → length s.threads ≡ 1 → slice_get s.threads 0 ≡ Some t → legal_action w s ≡ action_by w t s.ended t.status
+alone_is w s t one here = legal_is w s ∙ by_threads s.threads one here where
+  by_threads : (threads : List Thread) → length threads ≡ 1 → slice_get threads 0 ≡ Some t → action_of w threads s.ended ≡ action_by w t s.ended t.status
+  by_threads [] one here = absurd (omega arith)
+  by_threads (x ∷ []) one here = let same : x ≡ t = cc in ap (λ (y : Thread). action_by w y s.ended y.status) same
+  by_threads (x ∷ y ∷ ts) one here = absurd (omega arith)
+
+pub not_alone : (w : Setup) (s : State) → (length s.threads ≡ 1 → ⊥) → legal_action w s ≡ None
+not_alone w s other = none_there w s (grind (arith, nat_tests))

@@ -2,7 +2,11 @@ pub mod MemoryLemmas
 pub mod StartLemmas
 pub mod MoveLemmas
 pub mod RunLemmas
-pub mod LegalLemmas
 pub mod WriteLemmas
-pub mod TrapLemmas
 pub mod ReservationLemmas
+pub mod ServingLemmas
+pub mod LegalLemmas
+pub mod WakeLemmas
+pub mod ActLemmas
+pub mod MappedLemmas
+pub mod TrapLemmas

@@ -7,7 +7,7 @@ use Rattle.std.specs.FinMap.{get, find, get-from_entries}
 use Rattle.std.specs.Cmp.{nat_cmp_total}
 use Rattle.std.proofs.lemmas.Bool.Decides.{nat_tests}
 use Rattle.flat_machine.specs.declared.regions.Region.{Region}
-use Rattle.flat_machine.specs.Regions.{has_address, cells, memory_of, found}
+use Rattle.flat_machine.specs.Inner.{has_address, cells, memory_of, found}
 
 -- an address is that of the first cell, or one of those after it, or none of them
 pub tied : (q s : ℕ) → q ≡ s → eq_by_cmp nat_cmp q s ≡ true

@@ -12,7 +12,10 @@ use Rattle.flat_machine.specs.Action.{executed, with_instruction, with_move, is_
 use Rattle.std.specs.Ordering.{nat_cmp}
 use Rattle.std.specs.FinMap.{FinMap}
 use Rattle.std.specs.Option.{option_map}
-use Rattle.flat_machine.specs.Gives.{Acts, Executes}
+use Rattle.rv_hart.specs.declared.reservations.Span.{Span}
+use Rattle.flat_machine.specs.Reservation.{others_end}
+use Rattle.flat_machine.specs.Gives.{Acts}
+use Rattle.flat_machine.specs.Inner.{Executes}
 
 -- to write what is there changes nothing
 same_state : (s : State) (number : ℕ) (thread : Thread) → slice_get s.threads number ≡ Some thread → with_thread s number thread ≡ s
@@ -38,15 +41,15 @@ not_executed w s number old thread memory NotLegal here h = (rw here (rw h.0 ref
 not_executed w s number old thread memory NoMemory here h = rw (h.0, h.1) (same_state s number old here)
 
 -- no thread begins on a tile that isn't vacant, and on a vacant one a new thread does
-no_room : (w : Setup) (s : State) (number tile : ℕ) (vacant : Bool) → vacant ≡ false → with_move s number (λ t. begun_by w tile vacant t.status) ≡ None
+no_room : (w : Setup) (s : State) (number tile : ℕ) (vacant : Bool) → vacant ≡ false → with_move s number (λ t. begun_by w tile t vacant t.status) ≡ None
 no_room w s number tile true e = cc
 no_room w s number tile false e = by_thread (slice_get s.threads number) where
-  by_thread : (o : Option Thread) → option_map (with_thread s number) (option_and_then (λ t. begun_by w tile false t.status) o) ≡ None
+  by_thread : (o : Option Thread) → option_map (with_thread s number) (option_and_then (λ t. begun_by w tile t false t.status) o) ≡ None
   by_thread None = refl
   by_thread (Some t) = refl
 
 has_room : (w : Setup) (s : State) (number tile : ℕ) (vacant : Bool) → vacant ≡ true
-    → with_move s number (λ t. begun_by w tile true t.status) ≡ with_move s number (λ t. begun_by w tile vacant t.status)
+    → with_move s number (λ t. begun_by w tile t true t.status) ≡ with_move s number (λ t. begun_by w tile t vacant t.status)
 has_room w s number tile true e = refl
 has_room w s number tile false e = cc
 
@@ -54,5 +57,11 @@ pub not_begun : (w : Setup) (s : State) (number tile : ℕ) → is_vacant w s ti
 not_begun w s number tile e = no_room w s number tile (is_vacant w s tile) e
 
 pub begins : (w : Setup) (s : State) (number tile : ℕ) → is_vacant w s tile ≡ true
-    → with_move s number (λ t. begun_by w tile true t.status) ≡ with_move s number (begun w s tile)
+    → with_move s number (λ t. begun_by w tile t true t.status) ≡ with_move s number (begun w s tile)
 begins w s number tile e = has_room w s number tile (is_vacant w s tile) e
+
+-- an instruction of one thread that is made changes the machine, and the others' reservations
+pub was_executed : (w : Setup) (s : State) (number : ℕ) (old thread : Thread) (memory : FinMap nat_cmp ℕ) (written : Option Span)
+    → slice_get s.threads number ≡ Some old → Executes (Ok written) s.memory memory old thread (executed w s.memory number old)
+    → with_instruction w s number ≡ Some (record s { memory = memory; threads = others_end written (slice_set s.threads number thread) number })
+was_executed w s number old thread memory written here h = rw here (rw h refl)

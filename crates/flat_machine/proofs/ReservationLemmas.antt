@@ -2,7 +2,7 @@
 use Rattle.std.proofs.Common.{◌≡◌, ℕ, List, [], ◌∷◌, map, zero, suc, refl, ap}
 use Rattle.std.specs.Prelude.{Some, slice_get, slice_set}
 use Rattle.std.specs.Option.{option_map}
-use Rattle.flat_machine.specs.declared.threads.Span.{Span}
+use Rattle.rv_hart.specs.declared.reservations.Span.{Span}
 use Rattle.flat_machine.specs.declared.threads.Thread.{Thread}
 use Rattle.flat_machine.specs.Reservation.{without_reservation, others_end}
 

@@ -16,7 +16,7 @@ use Rattle.elf_image.specs.Image.{IsProgram, IsSegment, holds}
 use Rattle.elf_image.specs.Layout.{Setup, mapped, addresses, stack_addresses, start_byte, byte_of, heap_start, stack_start}
 use Rattle.flat_machine.specs.declared.regions.Region.{Region}
 use Rattle.flat_machine.specs.Memory.{start_memory}
-use Rattle.flat_machine.specs.Regions.{has_address, memory_of, found, segment_region, stack_region, zeros_from, start_regions}
+use Rattle.flat_machine.specs.Inner.{has_address, memory_of, found, segment_region, stack_region, zeros_from, start_regions}
 use Rattle.flat_machine.proofs.MemoryLemmas.{tied, untied, here, beyond, same_test, get-memory_of}
 
 -- a list of pairs of addresses with what a function gives them

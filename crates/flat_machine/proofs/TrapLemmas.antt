@@ -1,30 +1,302 @@
 -- Why a run that ended by a trap did so: the thread's instruction has trapped before.
-use Rattle.std.proofs.Common.{◌≡◌, ℕ, ◌<◌, zero, suc, List, [], ◌∷◌, length, Bool, true, false, cond, not, ◌||◌, ◌==◌, ◌%◌, subst, refl, sym, ap, ◌∙◌, arith}
-use Rattle.std.specs.Prelude.{Option, Some, None, nat_lt, slice_get, slice_set, unwrap_or, option_and_then, find, is_some}
+use Rattle.std.proofs.Common.{◌≡◌, ℕ, ◌<◌, ◌++◌, zero, suc, List, [], ◌∷◌, length, map, Bool, true, false, cond, not, ◌%◌, ◌==◌, subst, refl, sym, ap, ◌∙◌, ◌⊎◌, inl, inr, arith}
+use Rattle.std.specs.Prelude.{Option, Some, None, nat_lt, slice_get, slice_set, unwrap_or, option_and_then}
 use Rattle.std.specs.Option.{option_map, option_map_or}
 use Rattle.std.specs.Ordering.{nat_cmp}
 use Rattle.std.specs.FinMap.{FinMap}
-use Rattle.sim_base.specs.declared.actions.Action.TheVariants.{Load}
+use Rattle.sim_base.specs.declared.actions.Action.{Action}
+use Rattle.sim_base.specs.declared.actions.Action.TheVariants.{Exec, FailSc, Load, Serve, Return, Begin}
 use Rattle.sim_base.specs.declared.ends.Cause.{Cause}
 use Rattle.sim_base.specs.declared.ends.End.{End}
-use Rattle.sim_base.specs.declared.ends.End.TheVariants.{Trap as TrapEnd, Exit, Deadlock}
-use Rattle.elf_image.specs.Layout.{Setup, may}
-use Rattle.elf_image.specs.declared.address_map.Right.TheVariants.{Read}
-use Rattle.rv_exec.specs.declared.meaning.Meaning.{Meaning}
-use Rattle.rv_exec.specs.declared.meaning.Meaning.TheVariants.{Next, Access, Call, Trap}
-use Rattle.wire_msg.specs.declared.calls.Call.TheVariants.{ExitGroup}
-use Rattle.flat_machine.specs.declared.threads.Span.{Span}
+use Rattle.sim_base.specs.declared.ends.End.TheVariants.{Trap as TrapEnd, Exit as ExitEnd, Deadlock}
+use Rattle.elf_image.specs.Layout.{Setup}
+use Rattle.rv_hart.specs.declared.reservations.Span.{Span}
+use Rattle.rv_hart.specs.declared.steps.Step.{Step}
+use Rattle.rv_hart.specs.declared.steps.Step.TheVariants.{Next, Access, ScFails, Answer, Ask, Write, Exit, Trap}
+use Rattle.wire_msg.specs.declared.calls.Call.{Call}
+use Rattle.wire_msg.specs.declared.calls.Call.TheVariants.{Spawn, Join as JoinCall, Write as WriteCall, FutexWait, FutexWake, Brk, ExitGroup}
+use Rattle.serving.specs.declared.control_data.Fate.{Fate}
+use Rattle.serving.specs.declared.control_data.Fate.TheVariants.{Live, Exited}
+use Rattle.serving.specs.declared.control_data.Join.{Join}
+use Rattle.serving.specs.declared.control_data.Join.TheVariants.{Code, Parked as ParkedJoin, NoThread, Invalid}
+use Rattle.serving.specs.declared.control_data.Request.{Request}
+use Rattle.serving.specs.declared.control_data.Request.TheVariants.{Call as CallRequest, Exit as ExitRequest, Trap as TrapRequest}
+use Rattle.serving.specs.declared.control_data.Waiter.{Waiter}
+use Rattle.serving.specs.ControlData.{ControlData}
+use Rattle.serving.specs.Join.{join_of}
+use Rattle.wire_msg.specs.ErrorNumber.{minus}
+use Rattle.serving.specs.Serving.{Served, Woken, Born, Own, answer, park, leave, answered, parked, born, is_full, joined, request_served, call_served, with_end}
 use Rattle.flat_machine.specs.declared.threads.Thread.{Thread}
-use Rattle.flat_machine.specs.declared.threads.Joiner.{Joiner}
 use Rattle.flat_machine.specs.declared.threads.Status.{Status}
-use Rattle.flat_machine.specs.declared.threads.Status.TheVariants.{Ready, Writing, Asked as AskedCall, Answered, Left, Trapped, Gone}
-use Rattle.flat_machine.specs.State.{State, started}
-use Rattle.flat_machine.specs.Reservation.{others_end}
-use Rattle.flat_machine.specs.Calls.{called, write_call, answered, minus, a0, a1, a2, a7, write_length}
-use Rattle.flat_machine.specs.Serving.{joiner_woken, woken, waits_for}
-use Rattle.flat_machine.specs.Action.{Change, act, IsTrapping, conditional_of, executed_as, trap_of, is_granted, lacks_reservation, next_meaning, with_change, access_fault, thread_change, trapped}
-use Rattle.flat_machine.specs.Run.{after, onward, exec_unless, serve_before, TrapHasCause}
+use Rattle.flat_machine.specs.declared.threads.Status.TheVariants.{New, Ready, Writing, Asked, Parked, Answered, Left, Trapped}
+use Rattle.flat_machine.specs.State.{State, start, with_status, with_thread}
+use Rattle.flat_machine.specs.Reservation.{others_end, without_reservation}
+use Rattle.flat_machine.specs.Serving.{control_of, word_of, request_of, with_fates, born_threads, woken_threads, with_own, after_serving, after_request}
+use Rattle.flat_machine.specs.Action.{Change, act, IsTrapping, step_of, executed_by_step, executed_by, conditional_rd, failed_conditional, failed, failed_by, loaded, loaded_by, returned, returned_by, begun, begun_by, is_vacant, with_change}
+use Rattle.flat_machine.specs.Run.{legal_action, after, onward, TrapHasCause}
 use Rattle.flat_machine.proofs.RunLemmas.{after-zero, after-suc}
+use Rattle.flat_machine.proofs.ActLemmas.{moved_by, executed_by_act, served_by_act}
+
+-- what a thread is doing
+abbrev status_at : List Thread → ℕ → Option Status
+status_at threads k = option_map (λ t. t.status) (slice_get threads k)
+
+status_there : (threads : List Thread) (k : ℕ) (t : Thread) (status : Status) → slice_get threads k ≡ Some t → t.status ≡ status → status_at threads k ≡ Some status
+status_there threads k t status here is = ap (option_map (λ (u : Thread). u.status)) here ∙ ap Some is
+
+status_set : (ts : List Thread) (k j : ℕ) (t : Thread) (status : Status) → status_at (slice_set ts k t) j ≡ Some status
+    → (status_at ts j ≡ Some status) ⊎ ((j ≡ k) × (t.status ≡ status))
+status_set [] k j t status e = inl e
+status_set (x ∷ xs) zero zero t status e = inr (refl, cc)
+status_set (x ∷ xs) zero (suc j) t status e = inl e
+status_set (x ∷ xs) (suc k) zero t status e = inl e
+status_set (x ∷ xs) (suc k) (suc j) t status e = elim (status_set xs k j t status e) [ inl h ↦ inl h | inr h ↦ inr (ap suc h.0, h.1) ]
+
+-- a thread that stands at a trap in the second list does so in the first
+abbrev KeepsTraps : List Thread → List Thread → Type 0
+KeepsTraps old new = (j : ℕ) (cause : Cause) (pc : ℕ) → status_at new j ≡ Some (Trapped cause pc) → status_at old j ≡ Some (Trapped cause pc)
+
+-- parts of serving
+status_with : (ts : List Thread) (k : ℕ) (new : Status) → ((cause : Cause) (pc : ℕ) → new ≡ Trapped cause pc → ⊥) → KeepsTraps ts (with_status ts k new)
+status_with ts k new quiet j cause pc e = by_there (slice_get ts k) e where
+  by_there : (o : Option Thread) → status_at (option_map_or (λ t. slice_set ts k (record t { status = new })) o ts) j ≡ Some (Trapped cause pc) → status_at ts j ≡ Some (Trapped cause pc)
+  by_there None e = e
+  by_there (Some t) e = elim (status_set ts k j (record t { status = new }) (Trapped cause pc) e) [ inl h ↦ h | inr h ↦ absurd (quiet cause pc h.1) ]
+
+woken_keep : (ws : List Woken) (ts : List Thread) → KeepsTraps ts (woken_threads ws ts)
+woken_keep [] ts j cause pc e = e
+woken_keep (x ∷ xs) ts j cause pc e =
+    status_with ts x.thread (Answered x.value) (λ c p h. cc) j cause pc (woken_keep xs (with_status ts x.thread (Answered x.value)) j cause pc e)
+
+fates_keep : (ts : List Thread) (fates : List Fate) → KeepsTraps ts (with_fates ts fates)
+fates_keep [] fates j cause pc e = e
+fates_keep (t ∷ ts) [] j cause pc e = e
+fates_keep (t ∷ ts) (Exited code joined ∷ fates) zero cause pc e = cc
+fates_keep (t ∷ ts) (Live joiner ∷ fates) zero cause pc e = e
+fates_keep (t ∷ ts) (Exited code joined ∷ fates) (suc j) cause pc e = fates_keep ts fates j cause pc e
+fates_keep (t ∷ ts) (Live joiner ∷ fates) (suc j) cause pc e = fates_keep ts fates j cause pc e
+
+born_keep : (ts : List Thread) (b : Option Born) → KeepsTraps ts (ts ++ born_threads b)
+born_keep [] None j cause pc e = e
+born_keep [] (Some b) zero cause pc e = cc
+born_keep [] (Some b) (suc j) cause pc e = e
+born_keep (t ∷ ts) b zero cause pc e = e
+born_keep (t ∷ ts) b (suc j) cause pc e = born_keep ts b j cause pc e
+
+own_keeps : (ts : List Thread) (number : ℕ) (own : Own) → KeepsTraps ts (with_own ts number own)
+own_keeps ts number (answer value) = status_with ts number (Answered value) (λ c p h. cc)
+own_keeps ts number park = status_with ts number Parked (λ c p h. cc)
+own_keeps ts number leave = λ j cause pc e. e
+
+serving_keeps : (s : State) (number : ℕ) (made : Served) → KeepsTraps s.threads (after_serving s number made).threads
+unfolding after_serving
+serving_keeps s number made j cause pc e =
+    let by_fates : List Thread = with_fates s.threads made.control.fates in
+    let with_born : List Thread = by_fates ++ born_threads made.born in
+    let all_woken : List Thread = woken_threads made.woken with_born in
+    fates_keep s.threads made.control.fates j cause pc (born_keep by_fates made.born j cause pc (woken_keep made.woken with_born j cause pc (own_keeps all_woken number made.own j cause pc e)))
+
+-- the end that serving leaves, where there was none, is a trap at a trap's request alone
+abbrev NoTrap : Option End → Type 0
+NoTrap ended = (number : ℕ) (cause : Cause) (pc : ℕ) → ended ≡ Some (TrapEnd number cause pc) → ⊥
+
+abbrev end_made : Served → Option End
+end_made made = (with_end true made).control.ended
+
+one_of : (b : Bool) (x y : Served) → NoTrap (end_made x) → NoTrap (end_made y) → NoTrap (end_made (cond b x y))
+one_of true x y p q = p
+one_of false x y p q = q
+
+closed_calm : (b : Bool) (ended : Option End) → NoTrap ended → NoTrap (cond b (Some Deadlock) ended)
+closed_calm true ended calm = λ number cause pc e. cc
+closed_calm false ended calm = calm
+
+none_calm : NoTrap None
+none_calm number cause pc e = cc
+
+exit_calm : (b : Bool) (code : ℕ) → NoTrap (cond b (Some (ExitEnd code)) None)
+exit_calm true code number cause pc e = cc
+exit_calm false code number cause pc e = cc
+
+join_calm : (c : ControlData) (caller target : ℕ) (join : Join) → NoTrap c.ended → NoTrap (end_made (joined c caller target join))
+join_calm c caller target (Code code) calm = calm
+join_calm c caller target ParkedJoin calm = closed_calm _ c.ended calm
+join_calm c caller target NoThread calm = calm
+join_calm c caller target Invalid calm = calm
+
+-- control data before the end
+abbrev before_end : ControlData → ControlData
+before_end c = record c { ended = None }
+
+call_calm : (w : Setup) (c : ControlData) (caller : ℕ) (call : Call) (word : ℕ) → NoTrap (end_made (call_served w (before_end c) caller call word))
+call_calm w c caller (Spawn entry arg) word =
+    let u : ControlData = before_end c in
+    one_of (not (entry % 4 == 0)) (answered u (minus 22)) (cond (is_full w c.fates) (answered u (minus 11)) (born u entry arg)) none_calm
+    (one_of (is_full w c.fates) (answered u (minus 11)) (born u entry arg) none_calm none_calm)
+call_calm w c caller (JoinCall target) word = join_calm (before_end c) caller target (join_of c.fates caller target) none_calm
+call_calm w c caller (WriteCall bytes) word = none_calm
+call_calm w c caller (FutexWait addr value) word =
+    let u : ControlData = before_end c in
+    let last : Waiter = record { thread = caller; addr = addr } in
+    one_of (word == value) (parked (record u { waiters = c.waiters ++ last ∷ [] })) (answered u (minus 11)) (closed_calm _ None none_calm) none_calm
+call_calm w c caller (FutexWake addr count) word = none_calm
+call_calm w c caller (Brk addr) word = none_calm
+call_calm w c caller (ExitGroup code) word = λ number cause pc e. cc
+
+-- a request's end is a trap's where it is a trap's request
+abbrev TrapOf : ℕ → Request → Option End → Type 0
+TrapOf caller request ended = (number : ℕ) (cause : Cause) (pc : ℕ) → ended ≡ Some (TrapEnd number cause pc) → (number ≡ caller) × (request ≡ TrapRequest cause pc)
+
+request_trap : (w : Setup) (c : ControlData) (caller : ℕ) (request : Request) (word : ℕ) → TrapOf caller request (end_made (request_served w (before_end c) caller request word))
+request_trap w c caller (CallRequest call) word = λ number cause pc e. absurd (call_calm w c caller call word number cause pc e)
+request_trap w c caller (ExitRequest code) word = λ number cause pc e. absurd (closed_calm _ _ (exit_calm _ code) number cause pc e)
+request_trap w c caller (TrapRequest x at) word = λ number cause pc e. (cc, cc)
+
+-- a thread that asks for a trap to be served stands at it
+stands_trapped : (status : Status) (cause : Cause) (pc : ℕ) → request_of status ≡ Some (TrapRequest cause pc) → status ≡ Trapped cause pc
+stands_trapped (Writing addr len bytes) cause pc e = by_left (nat_lt (length bytes) len) e where
+  by_left : (b : Bool) → cond b None (Some (CallRequest (WriteCall bytes))) ≡ Some (TrapRequest cause pc) → Writing addr len bytes ≡ Trapped cause pc
+  by_left true e = cc
+  by_left false e = cc
+stands_trapped (Trapped x at) cause pc e = cc
+stands_trapped (Asked call) cause pc e = cc
+stands_trapped (Left code) cause pc e = cc
+stands_trapped _ cause pc e = cc
+
+-- a move leaves no thread at a trap
+abbrev is_trapped : Status → Bool
+is_trapped (Trapped cause pc) = true
+is_trapped _ = false
+
+not_trapped : (status : Status) (cause : Cause) (pc : ℕ) → is_trapped status ≡ false → status ≡ Trapped cause pc → ⊥
+not_trapped status cause pc quiet is = let yes : is_trapped status ≡ true = ap is_trapped is in cc
+
+quiet_as : (x new : Thread) → Some x ≡ Some new → is_trapped x.status ≡ false → is_trapped new.status ≡ false
+quiet_as x new e quiet = let same : x ≡ new = cc in rw (← same) quiet
+
+failed_quiet : (w : Setup) (number : ℕ) (t new : Thread) (status : Status) → t.status ≡ status → failed_by w number t status ≡ Some new → is_trapped new.status ≡ false
+failed_quiet w number t new Ready is e = by_rd (conditional_rd (step_of w number t)) e where
+  by_rd : (rd : Option ℕ) → option_map (failed_conditional t) rd ≡ Some new → is_trapped new.status ≡ false
+  by_rd None e = cc
+  by_rd (Some rd) e = quiet_as (failed_conditional t rd) new e (ap is_trapped is)
+failed_quiet w number t new _ is e = cc
+
+loaded_quiet : (memory : FinMap nat_cmp ℕ) (t new : Thread) (status : Status) → loaded_by memory t status ≡ Some new → is_trapped new.status ≡ false
+loaded_quiet memory t new (Writing addr len bytes) e = by_left (nat_lt (length bytes) len) _ e where
+  by_left : (b : Bool) (more : List ℕ) → cond b (Some (record t { status = Writing addr len more })) None ≡ Some new → is_trapped new.status ≡ false
+  by_left true more e = quiet_as (record t { status = Writing addr len more }) new e refl
+  by_left false more e = cc
+loaded_quiet memory t new _ e = cc
+
+returned_quiet : (t new : Thread) (status : Status) → returned_by t status ≡ Some new → is_trapped new.status ≡ false
+returned_quiet t new (Answered value) e = quiet_as _ new e refl
+returned_quiet t new _ e = cc
+
+begun_quiet : (w : Setup) (tile : ℕ) (t new : Thread) (vacant : Bool) (status : Status) → begun_by w tile t vacant status ≡ Some new → is_trapped new.status ≡ false
+begun_quiet w tile t new true (New entry arg) e = quiet_as _ new e refl
+begun_quiet w tile t new true _ e = cc
+begun_quiet w tile t new false status e = cc
+
+moved_keeps : (s : State) (number : ℕ) (new : Thread) → is_trapped new.status ≡ false → KeepsTraps s.threads (with_thread s number new).threads
+moved_keeps s number new quiet j cause pc e =
+    elim (status_set s.threads number j new (Trapped cause pc) e) [ inl h ↦ h | inr h ↦ absurd (not_trapped new.status cause pc quiet h.1) ]
+
+-- an instruction that leaves its thread at a trap has trapped
+step_traps : (memory : FinMap nat_cmp ℕ) (t : Thread) (step : Step) (change : Change) (cause : Cause) (pc : ℕ) → t.status ≡ Ready
+    → executed_by_step memory t step ≡ Some change → change.thread.status ≡ Trapped cause pc → (t.pc ≡ pc) × (step ≡ Trap cause)
+step_traps memory t step change cause pc ready e is = by_step step e where
+  done_by : (x : Change) → Some x ≡ Some change → x.thread.status ≡ Trapped cause pc
+  done_by x e = let same : x ≡ change = cc in ap (λ (c : Change). c.thread.status) same ∙ is
+
+  quietly : (x : Change) → Some x ≡ Some change → is_trapped x.thread.status ≡ false → ⊥
+  quietly x e quiet = not_trapped x.thread.status cause pc quiet (done_by x e)
+
+  by_step : (step : Step) → executed_by_step memory t step ≡ Some change → (t.pc ≡ pc) × (step ≡ Trap cause)
+  by_step (Next class rd value next) e = absurd (quietly _ e (ap is_trapped ready))
+  by_step (Access access) e = absurd (quietly _ e (ap is_trapped ready))
+  by_step (ScFails rd) e = cc
+  by_step (Answer value) e = absurd (quietly _ e refl)
+  by_step (Ask call) e = absurd (quietly _ e refl)
+  by_step (Write addr len) e = absurd (quietly _ e refl)
+  by_step (Exit code) e = absurd (quietly _ e refl)
+  by_step (Trap x) e = let at : Trapped x t.pc ≡ Trapped cause pc = done_by _ e in (cc, cc)
+
+executed_traps : (w : Setup) (memory : FinMap nat_cmp ℕ) (number : ℕ) (t : Thread) (status : Status) (change : Change) (cause : Cause) (pc : ℕ) → t.status ≡ status
+    → executed_by w memory number t status ≡ Some change → change.thread.status ≡ Trapped cause pc → (t.status ≡ Ready) × (t.pc ≡ pc) × (step_of w number t ≡ Trap cause)
+executed_traps w memory number t Ready change cause pc ready e is = let made = step_traps memory t (step_of w number t) change cause pc ready e is in (ready, made.0, made.1)
+executed_traps w memory number t _ change cause pc ready e is = cc
+
+-- others lose their reservations alone
+map_status : (span : Span) (ts : List Thread) (j : ℕ) → status_at (map (without_reservation span) ts) j ≡ status_at ts j
+map_status span [] j = refl
+map_status span (t ∷ ts) zero = refl
+map_status span (t ∷ ts) (suc j) = map_status span ts j
+
+others_keep : (written : Option Span) (ts : List Thread) (number j : ℕ) (status : Status) → status_at (others_end written ts number) j ≡ Some status → status_at ts j ≡ Some status
+others_keep None ts number j status e = e
+others_keep (Some span) ts number j status e = by_own (slice_get ts number) refl e where
+  by_own : (o : Option Thread) → slice_get ts number ≡ o → status_at (option_map_or (λ own. slice_set (map (without_reservation span) ts) number own) o ts) j ≡ Some status → status_at ts j ≡ Some status
+  by_own None here e = e
+  by_own (Some own) here e = elim (status_set (map (without_reservation span) ts) number j own status e) [
+    | inl h ↦ sym (map_status span ts j) ∙ h
+    | inr h ↦ ap (status_at ts) h.0 ∙ status_there ts number own status here h.1
+  ]
+
+-- one action: a thread stands at a trap that did so before, or whose instruction has just trapped; and an end by a
+-- trap is an old one, or that of a thread that stood at it
+record Explains (w : Setup) (s next : State) : Type 0 where
+  trapped : (number : ℕ) (cause : Cause) (pc : ℕ) → status_at next.threads number ≡ Some (Trapped cause pc)
+      → (status_at s.threads number ≡ Some (Trapped cause pc)) ⊎ IsTrapping w s number cause pc
+  ended : (number : ℕ) (cause : Cause) (pc : ℕ) → next.ended ≡ Some (TrapEnd number cause pc)
+      → (s.ended ≡ Some (TrapEnd number cause pc)) ⊎ (status_at s.threads number ≡ Some (Trapped cause pc))
+
+explains_move : (w : Setup) (s next : State) (number : ℕ) (new : Thread) → with_thread s number new ≡ next → is_trapped new.status ≡ false → Explains w s next
+explains_move w s next number new gives quiet = subst (λ x. Explains w s x) gives (record {
+  trapped = λ j cause pc e. inl (moved_keeps s number new quiet j cause pc e);
+  ended = λ j cause pc e. inl e;
+})
+
+explains_change : (w : Setup) (s next : State) (number : ℕ) (old : Thread) (change : Change) → slice_get s.threads number ≡ Some old
+    → executed_by w s.memory number old old.status ≡ Some change → with_change s number change ≡ next → Explains w s next
+explains_change w s next number old change here executes gives = subst (λ x. Explains w s x) gives (record {
+  trapped = λ j cause pc e. by_place j cause pc (status_set s.threads number j change.thread (Trapped cause pc) (others_keep change.written (slice_set s.threads number change.thread) number j (Trapped cause pc) e));
+  ended = λ j cause pc e. inl e;
+}) where
+  by_place : (j : ℕ) (cause : Cause) (pc : ℕ) → (status_at s.threads j ≡ Some (Trapped cause pc)) ⊎ ((j ≡ number) × (change.thread.status ≡ Trapped cause pc))
+      → (status_at s.threads j ≡ Some (Trapped cause pc)) ⊎ IsTrapping w s j cause pc
+  by_place j cause pc (inl h) = inl h
+  by_place j cause pc (inr h) =
+      let made = executed_traps w s.memory number old old.status change cause pc refl executes h.1 in
+      inr (rw h.0 (record { thread = old; is_thread = here; is_ready = made.0; is_there = made.1; traps = made.2 }))
+
+end_is : (s : State) (number : ℕ) (made : Served) → (after_serving s number made).ended ≡ made.control.ended
+unfolding after_serving
+end_is s number made = refl
+
+explains_serving : (w : Setup) (s next : State) (number : ℕ) (old : Thread) (request : Request) → s.ended ≡ None → slice_get s.threads number ≡ Some old
+    → request_of old.status ≡ Some request → after_request w s number request ≡ next → Explains w s next
+explains_serving w s next number old request goes_on here asks gives = subst (λ x. Explains w s x) gives (record {
+  trapped = λ j cause pc e. inl (serving_keeps s number _ j cause pc e);
+  ended = λ j cause pc e. let trap = request_trap w (control_of s) number request (word_of s.memory request) j cause pc (served_end s.ended goes_on cause pc j e) in
+      inr (rw trap.0 (status_there s.threads number old (Trapped cause pc) here (stands_trapped old.status cause pc (asks ∙ ap Some trap.1))));
+}) where
+  served_end : (ended : Option End) → ended ≡ None → (cause : Cause) (pc j : ℕ) → (after_request w (record s { ended = ended }) number request).ended ≡ Some (TrapEnd j cause pc)
+      → end_made (request_served w (before_end (control_of s)) number request (word_of s.memory request)) ≡ Some (TrapEnd j cause pc)
+  served_end None is cause pc j e = sym (end_is (record s { ended = None }) number _) ∙ e
+  served_end (Some end) is cause pc j e = cc
+
+explains : (w : Setup) (s : State) (a : Action) (next : State) → act w s a ≡ Some next → Explains w s next
+explains w s (Exec number) next e = let made = executed_by_act w s number next e in explains_change w s next number made.old made.change made.here made.executes made.gives
+explains w s (FailSc number) next e = let made = moved_by s number (failed w number) next e in
+    explains_move w s next number made.new made.gives (failed_quiet w number made.old made.new made.old.status refl made.moves)
+explains w s (Load number) next e = let made = moved_by s number (loaded s.memory) next e in
+    explains_move w s next number made.new made.gives (loaded_quiet s.memory made.old made.new made.old.status made.moves)
+explains w s (Serve number) next e = let made = served_by_act w s number next e in
+    explains_serving w s next number made.old made.request made.goes_on made.here made.asks made.gives
+explains w s (Return number) next e = let made = moved_by s number returned next e in
+    explains_move w s next number made.new made.gives (returned_quiet made.old made.new made.old.status made.moves)
+explains w s (Begin number tile) next e = let made = moved_by s number (begun w s tile) next e in
+    explains_move w s next number made.new made.gives (begun_quiet w tile made.old made.new (is_vacant w s tile) made.old.status made.moves)
 
 -- in an earlier state of the run the thread's instruction traps so
 abbrev Caused : Setup → ℕ → ℕ → Cause → ℕ → Type 0
@@ -33,179 +305,51 @@ Caused w n number cause pc = (k : ℕ) × (k < n) × IsTrapping w (after w k) nu
 later : (w : Setup) (n number : ℕ) (cause : Cause) (pc : ℕ) → Caused w n number cause pc → Caused w (suc n) number cause pc
 later w n number cause pc h = (h.0, omega arith, h.2)
 
--- a trap of thread 0, and an end by a trap, have their causes
+-- every thread that stands at a trap, and an end by a trap, have their causes
 record Explained (w : Setup) (n : ℕ) (s : State) : Type 0 where
-  trapped : (t : Thread) (cause : Cause) (pc : ℕ) → slice_get s.threads 0 ≡ Some t → t.status ≡ Trapped cause pc → Caused w n 0 cause pc
+  trapped : (number : ℕ) (cause : Cause) (pc : ℕ) → status_at s.threads number ≡ Some (Trapped cause pc) → Caused w n number cause pc
   ended : (number : ℕ) (cause : Cause) (pc : ℕ) → s.ended ≡ Some (TrapEnd number cause pc) → Caused w n number cause pc
 
 unchanged : (w : Setup) (n : ℕ) (s : State) → Explained w n s → Explained w (suc n) s
 unchanged w n s h = record {
-  trapped = λ t cause pc at is. later w n 0 cause pc (h.trapped t cause pc at is);
-  ended = λ number cause pc is. later w n number cause pc (h.ended number cause pc is);
+  trapped = λ number cause pc e. later w n number cause pc (h.trapped number cause pc e);
+  ended = λ number cause pc e. later w n number cause pc (h.ended number cause pc e);
 }
 
--- whether a thread stands at its trap
-abbrev is_trapped : Status → Bool
-is_trapped (Trapped cause pc) = true
-is_trapped _ = false
-
-not_trapped : (status : Status) (cause : Cause) (pc : ℕ) → is_trapped status ≡ false → status ≡ Trapped cause pc → ⊥
-not_trapped status cause pc quiet is = let yes : is_trapped status ≡ true = ap is_trapped is in cc
-
--- a state whose thread 0 stands at no trap, and whose end is no trap but an old one
-calm : (w : Setup) (n : ℕ) (s s' : State) (first : Thread) → Explained w n s → slice_get s'.threads 0 ≡ Some first → is_trapped first.status ≡ false
-    → ((number : ℕ) (cause : Cause) (pc : ℕ) → s'.ended ≡ Some (TrapEnd number cause pc) → s.ended ≡ Some (TrapEnd number cause pc)) → Explained w (suc n) s'
-calm w n s s' first h at quiet old = record {
-  trapped = λ t cause pc here is. let same : t ≡ first = cc in absurd (not_trapped first.status cause pc quiet (ap (λ (x : Thread). x.status) (sym same) ∙ is));
-  ended = λ number cause pc is. later w n number cause pc (h.ended number cause pc (old number cause pc is));
+one_more : (w : Setup) (n : ℕ) (next : State) → Explained w n (after w n) → Explains w (after w n) next → Explained w (suc n) next
+one_more w n next h x = record {
+  trapped = λ number cause pc e. elim (x.trapped number cause pc e) [
+    | inl old ↦ later w n number cause pc (h.trapped number cause pc old)
+    | inr now ↦ (n, omega arith, now)
+  ];
+  ended = λ number cause pc e. elim (x.ended number cause pc e) [
+    | inl old ↦ later w n number cause pc (h.ended number cause pc old)
+    | inr stood ↦ later w n number cause pc (h.trapped number cause pc stood)
+  ];
 }
 
--- a call makes no trap
-choice : (b : Bool) (x y : Thread) → is_trapped x.status ≡ false → is_trapped y.status ≡ false → is_trapped (cond b x y).status ≡ false
-choice true x y p q = p
-choice false x y p q = q
+onward_explained : (w : Setup) (n : ℕ) → Explained w n (after w n) → Explained w (suc n) (onward w (after w n))
+onward_explained w n h = by_action (legal_action w (after w n)) where
+  by_next : (a : Action) (o : Option State) → act w (after w n) a ≡ o → Explained w (suc n) (unwrap_or o (after w n))
+  by_next a None e = unchanged w n (after w n) h
+  by_next a (Some next) e = one_more w n next h (explains w (after w n) a next e)
 
-write_not_trapped : (w : Setup) (t : Thread) → is_trapped (write_call w t).status ≡ false
-write_not_trapped w t =
-    let reading : Thread = record t { status = Writing (a1 t) (write_length t) [] } in
-    let checked : Thread = cond (not (may w (a1 t) (write_length t) Read)) (answered t (minus 14)) reading in
-    let some_bytes : Thread = cond (a2 t == 0) (answered t 0) checked in
-    choice (not (a0 t == 1 || a0 t == 2)) (answered t (minus 9)) some_bytes refl
-    (choice (a2 t == 0) (answered t 0) checked refl
-    (choice (not (may w (a1 t) (write_length t) Read)) (answered t (minus 14)) reading refl refl))
+  by_action : (o : Option Action) → Explained w (suc n) (unwrap_or (option_and_then (act w (after w n)) o) (after w n))
+  by_action None = unchanged w n (after w n) h
+  by_action (Some a) = by_next a (act w (after w n) a) refl
 
-call_not_trapped : (w : Setup) (number : ℕ) (t : Thread) → is_trapped (called w number t).status ≡ false
-call_not_trapped w number t =
-    let other : Thread = answered t (minus 38) in
-    let from_178 : Thread = cond (a7 t == 178) (answered t number) other in
-    let from_124 : Thread = cond (a7 t == 124) (answered t 0) from_178 in
-    let exits_all : Thread = record t { status = AskedCall (ExitGroup (a0 t % 256)) } in
-    let from_94 : Thread = cond (a7 t == 94) exits_all from_124 in
-    let exits : Thread = record t { tile = None; status = Left (a0 t % 256) } in
-    choice (a7 t == 64) (write_call w t) (cond (a7 t == 93) exits from_94) (write_not_trapped w t)
-    (choice (a7 t == 93) exits from_94 refl
-    (choice (a7 t == 94) exits_all from_124 refl
-    (choice (a7 t == 124) (answered t 0) from_178 refl
-    (choice (a7 t == 178) (answered t number) other refl refl))))
-
--- the first thread stays the first where others lose their reservations
-first_kept : (written : Option Span) (t : Thread) (ts : List Thread) → slice_get (others_end written (t ∷ ts) 0) 0 ≡ Some t
-first_kept None t ts = refl
-first_kept (Some span) t ts = refl
-
--- an exit leaves no trap: the thread is gone, or was woken
-first_after_exit : (joiner : Option Joiner) (t : Thread) (ts : List Thread) (code : ℕ) → is_trapped t.status ≡ false
-    → (first : Thread) × (slice_get (joiner_woken joiner (t ∷ ts) code) 0 ≡ Some first) × (is_trapped first.status ≡ false)
-first_after_exit None t ts code quiet = (t, refl, quiet)
-first_after_exit (Some j) t ts code quiet = by_number j.thread where
-  at_later : (o : Option Thread) (k : ℕ) → (first : Thread) × (slice_get (option_map_or (λ x. slice_set (t ∷ ts) (suc k) (record x { status = Answered code })) o (t ∷ ts)) 0 ≡ Some first) × (is_trapped first.status ≡ false)
-  at_later None k = (t, refl, quiet)
-  at_later (Some x) k = (t, refl, quiet)
-
-  by_number : (number : ℕ) → (first : Thread) × (slice_get (woken (t ∷ ts) number code) 0 ≡ Some first) × (is_trapped first.status ≡ false)
-  by_number zero = (record t { status = Answered code }, refl, refl)
-  by_number (suc k) = at_later (slice_get ts k) k
-
--- the end after an exit is no trap
-no_trap_end : (live awake : Bool) (code number : ℕ) (cause : Cause) (pc : ℕ)
-    → cond (not live) (Some (Exit code)) (cond (not awake) (Some Deadlock) None) ≡ Some (TrapEnd number cause pc) → ⊥
-no_trap_end false awake code number cause pc e = cc
-no_trap_end true false code number cause pc e = cc
-no_trap_end true true code number cause pc e = cc
-
--- an instruction that leaves its thread at a trap has trapped by the table
-status_of : (x change : Change) (status : Status) → Some x ≡ Some change → change.thread.status ≡ status → x.thread.status ≡ status
-status_of x change status e is = let same : x ≡ change = cc in ap (λ (c : Change). c.thread.status) same ∙ is
-
-trap_made : (w : Setup) (memory : FinMap nat_cmp ℕ) (t : Thread) (m : Meaning) (change : Change) (cause : Cause) (pc : ℕ) → is_trapped t.status ≡ false
-    → executed_as w memory 0 t m ≡ Some change → change.thread.status ≡ Trapped cause pc → (t.pc ≡ pc) × (trap_of w m ≡ Some cause)
-trap_made w memory t (Next rd value next) change cause pc quiet e is = absurd (not_trapped t.status cause pc quiet (status_of _ change (Trapped cause pc) e is))
-trap_made w memory t Call change cause pc quiet e is = absurd (not_trapped (called w 0 t).status cause pc (call_not_trapped w 0 t) (status_of _ change (Trapped cause pc) e is))
-trap_made w memory t (Trap x) change cause pc quiet e is = let at : Trapped x t.pc ≡ Trapped cause pc = status_of _ change (Trapped cause pc) e is in (cc, cc)
-trap_made w memory t (Access access) change cause pc quiet e is = by_tests (is_granted w access) (lacks_reservation t access) _ (access_fault access.op) quiet e where
-  by_tests : (granted lacks : Bool) (done : Change) (x : Cause) → is_trapped done.thread.status ≡ false
-      → cond (not granted) (Some (thread_change memory (trapped t x))) (cond lacks None (Some done)) ≡ Some change
-      → (t.pc ≡ pc) × (cond granted None (Some x) ≡ Some cause)
-  by_tests false lacks done x calm_done e = let at : Trapped x t.pc ≡ Trapped cause pc = status_of _ change (Trapped cause pc) e is in (cc, cc)
-  by_tests true true done x calm_done e = cc
-  by_tests true false done x calm_done e = absurd (not_trapped done.thread.status cause pc calm_done (status_of done change (Trapped cause pc) e is))
-
-module _ (w : Setup) (n : ℕ) (base : State) (t : Thread) where
-  -- a state whose thread 0 has this status
-  abbrev in_status : Status → List Thread → Option End → State
-  in_status status others ended = record base { threads = record t { status = status } ∷ others; ended = ended }
-
-  executed_step : (others : List Thread) (ended : Option End) → let s : State = in_status Ready others ended in after w n ≡ s → Explained w n s
-      → (change : Change) → executed_as w s.memory 0 (record t { status = Ready }) (next_meaning w (record t { status = Ready })) ≡ Some change
-      → Explained w (suc n) (with_change s 0 change)
-  executed_step others ended is h change e =
-      let ready : Thread = record t { status = Ready } in
-      record {
-        trapped = λ x cause pc at trap.
-            let first : slice_get (others_end change.written (change.thread ∷ others) 0) 0 ≡ Some change.thread = first_kept change.written change.thread others in
-            let same : x ≡ change.thread = cc in
-            let made = trap_made w base.memory ready (next_meaning w ready) change cause pc refl e (ap (λ (y : Thread). y.status) (sym same) ∙ trap) in
-            (n, omega arith, record { thread = ready; is_thread = rw is refl; is_ready = refl; is_there = made.0; traps = made.1 });
-        ended = λ number cause pc old. later w n number cause pc (h.ended number cause pc old);
-      }
-
-  ready_step : (others : List Thread) (ended : Option End) → let s : State = in_status Ready others ended in after w n ≡ s → Explained w n s → Explained w (suc n) (onward w s)
-  ready_step others ended is h =
-      let s = in_status Ready others ended in
-      let ready : Thread = record t { status = Ready } in
-      let m : Meaning = next_meaning w ready in
-      elim (conditional_of w m) as (λ o. Explained w (suc n) (unwrap_or (option_and_then (act w s) (exec_unless o)) s)) [
-        | Some access ↦ unchanged w n s h
-        | None ↦ (elim (executed_as w base.memory 0 ready m) as (λ o. executed_as w base.memory 0 ready m ≡ o → Explained w (suc n) (unwrap_or (option_map (with_change s 0) o) s)) [
-          | None ↦ λ e. unchanged w n s h
-          | Some change ↦ λ e. executed_step others ended is h change e
-        ]) refl
-      ]
-
-  served_step : (address len : ℕ) (bytes : List ℕ) (others : List Thread) (ended : Option End) → let s : State = in_status (Writing address len bytes) others ended in
-      nat_lt (length bytes) len ≡ false → Explained w n s → Explained w (suc n) (unwrap_or (option_and_then (act w s) (serve_before ended)) s)
-  served_step address len bytes others None e h = rw e (calm w n (in_status (Writing address len bytes) others None) _ _ h refl refl (λ number cause pc old. cc))
-  served_step address len bytes others (Some end) e h = unchanged w n (in_status (Writing address len bytes) others (Some end)) h
-
-  writing_step : (address len : ℕ) (bytes : List ℕ) (others : List Thread) (ended : Option End) → let s : State = in_status (Writing address len bytes) others ended in
-      Explained w n s → Explained w (suc n) (onward w s)
-  writing_step address len bytes others ended h =
-      let s = in_status (Writing address len bytes) others ended in
-      (elim (nat_lt (length bytes) len) as (λ b. nat_lt (length bytes) len ≡ b → Explained w (suc n) (unwrap_or (option_and_then (act w s) (cond b (Some (Load 0)) (serve_before ended))) s)) [
-        | true ↦ λ e. rw e (calm w n s _ _ h refl refl (λ number cause pc old. old))
-        | false ↦ λ e. served_step address len bytes others ended e h
-      ]) refl
-
-  step : (status : Status) (others : List Thread) (ended : Option End) → let s : State = in_status status others ended in after w n ≡ s → Explained w n s → Explained w (suc n) (onward w s)
-  step Ready others ended is h = ready_step others ended is h
-  step (Writing address len bytes) others ended is h = writing_step address len bytes others ended h
-  step (AskedCall (ExitGroup code)) others None is h = calm w n (in_status (AskedCall (ExitGroup code)) others None) _ (record t { status = AskedCall (ExitGroup code) }) h refl refl (λ number cause pc e. cc)
-  step (Answered value) others ended is h = calm w n (in_status (Answered value) others ended) _ _ h refl refl (λ number cause pc e. e)
-  step (Left code) others None is h =
-      let first = first_after_exit (find (waits_for 0) base.joiners) (record t { status = Gone code (is_some (find (waits_for 0) base.joiners)) }) others code refl in
-      calm w n (in_status (Left code) others None) _ first.0 h first.1 first.2 (λ number cause pc e. absurd (no_trap_end _ _ code number cause pc e))
-  step (Trapped cause pc) others None is h = record {
-    trapped = λ x c p at trap. later w n 0 c p (h.trapped x c p at trap);
-    ended = λ number c p e.
-        let a : 0 ≡ number = cc in
-        let b : cause ≡ c = cc in
-        let d : pc ≡ p = cc in
-        rw (← a, ← b, ← d) (later w n 0 cause pc (h.trapped (record t { status = Trapped cause pc }) cause pc refl refl));
-  }
-  step status others ended is h = unchanged w n (in_status status others ended) h
-
-onward_explained : (w : Setup) (n : ℕ) (s : State) → after w n ≡ s → Explained w n s → Explained w (suc n) (onward w s)
-onward_explained w n s is h = by_threads s.threads s.ended is h where
-  by_threads : (threads : List Thread) (ended : Option End) → let s' : State = record s { threads = threads; ended = ended } in after w n ≡ s' → Explained w n s' → Explained w (suc n) (onward w s')
-  by_threads [] ended is h = unchanged w n (record s { threads = []; ended = ended }) h
-  by_threads (t ∷ ts) ended is h = step w n s t t.status ts ended is h
+at_start : (w : Setup) → Explained w 0 (start w)
+at_start w = record {
+  trapped = λ number cause pc e. absurd (none_trapped number cause pc e);
+  ended = λ number cause pc e. cc;
+} where
+  none_trapped : (number : ℕ) (cause : Cause) (pc : ℕ) → status_at (start w).threads number ≡ Some (Trapped cause pc) → ⊥
+  none_trapped zero cause pc e = cc
+  none_trapped (suc k) cause pc e = cc
 
 explained : (w : Setup) (n : ℕ) → Explained w n (after w n)
-explained w zero = subst (λ s. Explained w 0 s) (sym (after-zero w)) (record {
-  trapped = λ t cause pc at is. let same : t ≡ started w 0 w.image.entry 0 = cc in let ready : Ready ≡ Trapped cause pc = ap (λ (x : Thread). x.status) (sym same) ∙ is in cc;
-  ended = λ number cause pc e. cc;
-})
-explained w (suc n) = subst (λ s. Explained w (suc n) s) (sym (after-suc w n)) (onward_explained w n (after w n) refl (explained w n))
+explained w zero = subst (λ s. Explained w 0 s) (sym (after-zero w)) (at_start w)
+explained w (suc n) = subst (λ s. Explained w (suc n) s) (sym (after-suc w n)) (onward_explained w n (explained w n))
 
 pub trap_has_cause : TrapHasCause
 trap_has_cause w n number cause pc e = (explained w n).ended number cause pc e

@@ -9,7 +9,7 @@ use Rattle.std.proofs.lemmas.List.{append-nil, take_all, set-get_or}
 use Rattle.std.proofs.lemmas.Bool.Decides.{nat_tests}
 use Rattle.flat_machine.specs.declared.regions.Region.{Region}
 use Rattle.flat_machine.specs.Memory.{with_byte}
-use Rattle.flat_machine.specs.Regions.{has_address, memory_of, found, with_byte_in}
+use Rattle.flat_machine.specs.Inner.{has_address, memory_of, found, with_byte_in}
 use Rattle.flat_machine.proofs.MemoryLemmas.{same_test, get-memory_of, tied, untied}
 
 -- which case an option was chosen by

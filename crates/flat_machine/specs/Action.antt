@@ -1,5 +1,6 @@
--- The actions of the flat machine, each a partial function: none means that it isn't legal.
-use Rattle.std.specs.Prelude.{ℕ, ◌≡◌, ◌+◌, ◌%◌, ◌^◌, ◌==◌, ◌&&◌, Bool, true, false, not, [], ◌∷◌, ◌++◌, length, nat_lt, if◌then◌else◌, Option, Some, None, option_and_then, slice_get, slice_set}
+-- The actions of the flat machine, each a partial function: none means that it isn't legal. From the RISC-V ISA manual
+-- and this simulator's own rules, as the next step of a hart has them.
+use Rattle.std.specs.Prelude.{ℕ, ◌≡◌, ◌+◌, ◌==◌, ◌&&◌, Bool, true, false, not, [], ◌∷◌, ◌++◌, length, nat_lt, if◌then◌else◌, Option, Some, None, option_and_then, slice_get, slice_set}
 use Rattle.std.specs.List.{list_any}
 use Rattle.std.specs.Option.{option_map}
 use Rattle.std.specs.Ordering.{nat_cmp}
@@ -7,44 +8,28 @@ use Rattle.std.specs.FinMap.{FinMap}
 use Rattle.sim_base.specs.declared.actions.Action.{Action}
 use Rattle.sim_base.specs.declared.actions.Action.TheVariants.{Exec, FailSc, Load, Serve, Return, Begin}
 use Rattle.sim_base.specs.declared.ends.Cause.{Cause}
-use Rattle.sim_base.specs.declared.ends.Cause.TheVariants.{InstrAccess, Illegal, LoadAccess, StoreAccess}
-use Rattle.sim_base.specs.declared.ends.End.{End}
-use Rattle.rv_decode.specs.declared.instr.Instr.{Instr}
-use Rattle.rv_decode.specs.Table.{row}
-use Rattle.rv_exec.specs.declared.meaning.Meaning.{Meaning}
-use Rattle.rv_exec.specs.declared.meaning.Meaning.TheVariants.{Next, Access, Call, Trap}
-use Rattle.rv_exec.specs.declared.access.AccessOp.{AccessOp}
-use Rattle.rv_exec.specs.declared.access.AccessOp.TheVariants.{Load as LoadAccessOp, Store as StoreAccessOp, Lr, Sc, Amo}
-use Rattle.rv_exec.specs.declared.access.Done.{Done}
-use Rattle.rv_exec.specs.Access.{Asked, finish_of}
-use Rattle.rv_exec.specs.Registers.{with_register}
-use Rattle.rv_exec.specs.Effect.{effect_of}
-use Rattle.elf_image.specs.Layout.{Setup, fetch, may}
-use Rattle.elf_image.specs.declared.address_map.Right.{Right}
-use Rattle.elf_image.specs.declared.address_map.Right.TheVariants.{Read, Write, ReadWrite}
 use Rattle.sim_base.specs.LittleEndian.{loaded as loaded_number, stored}
-use Rattle.flat_machine.specs.declared.threads.Span.{Span}
+use Rattle.rv_exec.specs.declared.access.Done.{Done}
+use Rattle.rv_exec.specs.Access.{Asked as AccessAsked, finish_of}
+use Rattle.rv_exec.specs.Registers.{with_register}
+use Rattle.elf_image.specs.Layout.{Setup}
+use Rattle.rv_hart.specs.declared.reservations.Span.{Span}
+use Rattle.rv_hart.specs.declared.steps.Step.{Step}
+use Rattle.rv_hart.specs.declared.steps.Step.TheVariants.{Next, Access, ScFails, Answer, Ask, Write, Exit, Trap}
+use Rattle.rv_hart.specs.Start.{next_pc, with_answer}
+use Rattle.rv_hart.specs.Reservation.{span_of, reserved, is_conditional}
+use Rattle.rv_hart.specs.Step.{next_step}
 use Rattle.flat_machine.specs.declared.threads.Thread.{Thread}
 use Rattle.flat_machine.specs.declared.threads.Status.{Status}
-use Rattle.flat_machine.specs.declared.threads.Status.TheVariants.{New, Ready, Writing, Answered, Trapped}
-use Rattle.flat_machine.specs.Memory.{byte_at, with_byte}
+use Rattle.flat_machine.specs.declared.threads.Status.TheVariants.{New, Ready, Writing, Asked, Answered, Left, Trapped}
+use Rattle.flat_machine.specs.Memory.{byte_at, byte_around, with_byte}
 use Rattle.flat_machine.specs.State.{State, started, with_thread}
-use Rattle.flat_machine.specs.Reservation.{span_of, matches, reserved, others_end}
-use Rattle.flat_machine.specs.Calls.{answered, called}
+use Rattle.flat_machine.specs.Reservation.{others_end}
 use Rattle.flat_machine.specs.Serving.{served}
 
--- what a word means to a thread: a word with no row is an illegal instruction
-abbrev pub meaning_of_row : Option Instr → Thread → Meaning
-meaning_of_row None t = Trap Illegal
-meaning_of_row (Some instr) t = effect_of instr t.regs t.pc
-
-abbrev pub meaning_of_word : Option ℕ → Thread → Meaning
-meaning_of_word None t = Trap InstrAccess
-meaning_of_word (Some word) t = meaning_of_row (row word) t
-
--- what the next instruction means: first it is fetched, then decoded, then it has its effect
-abbrev pub next_meaning : Setup → Thread → Meaning
-next_meaning w t = meaning_of_word (fetch w t.pc) t
+-- the next step of the hart on which this thread runs
+abbrev pub step_of : Setup → ℕ → Thread → Step
+step_of w number t = next_step w t.regs t.pc t.reservation number
 
 -- what an instruction changes: the memory, with the bytes that were written if any, and its thread
 pub record Change : Type 0 where
@@ -56,101 +41,77 @@ pub record Change : Type 0 where
 abbrev pub thread_change : FinMap nat_cmp ℕ → Thread → Change
 thread_change memory thread = record { memory = memory; written = None; thread = thread }
 
--- the right that an access needs of its bytes, and the trap where it isn't there
-abbrev pub right_of : AccessOp → Right
-right_of LoadAccessOp = Read
-right_of StoreAccessOp = Write
-right_of Lr = Read
-right_of Sc = Write
-right_of (Amo op) = ReadWrite
-
-abbrev pub access_fault : AccessOp → Cause
-access_fault LoadAccessOp = LoadAccess
-access_fault Lr = LoadAccess
-access_fault _ = StoreAccess
-
--- whether each byte of an access has the right that it needs
-abbrev pub is_granted : Setup → Asked → Bool
-is_granted w access = may w access.addr access.size (right_of access.op)
-
--- the thread stays at the instruction that trapped
-abbrev pub trapped : Thread → Cause → Thread
-trapped t cause = record t { status = Trapped cause t.pc }
-
 -- rd gets a value, and the thread goes on behind the instruction
 abbrev pub passed : Thread → ℕ → ℕ → Thread
-passed t rd value = record t { regs = with_register t.regs rd value; pc = (t.pc + 4) % 2 ^ 64 }
+passed t rd value = record t { regs = with_register t.regs rd value; pc = next_pc t.pc }
+
+-- a0 gets the answer of a call, and the thread goes on behind it
+abbrev pub past_call : Thread → ℕ → Thread
+past_call t value = record t { regs = with_answer t.regs value; pc = next_pc t.pc; status = Ready }
 
 -- the memory after an access that writes a number, or nothing, and the bytes that it wrote
-abbrev pub written_memory : FinMap nat_cmp ℕ → Asked → Option ℕ → FinMap nat_cmp ℕ
+abbrev pub written_memory : FinMap nat_cmp ℕ → AccessAsked → Option ℕ → FinMap nat_cmp ℕ
 written_memory memory access None = memory
 written_memory memory access (Some value) = stored with_byte memory access.addr access.size value
 
-abbrev pub written_span : Asked → Option ℕ → Option Span
+abbrev pub written_span : AccessAsked → Option ℕ → Option Span
 written_span access None = None
 written_span access (Some value) = Some (span_of access)
 
 -- an access that is done
-abbrev pub completed : FinMap nat_cmp ℕ → Thread → Asked → Done → Change
+abbrev pub completed : FinMap nat_cmp ℕ → Thread → AccessAsked → Done → Change
 completed memory t access done = record {
   memory = written_memory memory access done.write;
   written = written_span access done.write;
-  thread = record (passed t access.rd done.value) { reservation = reserved access.op access t.reservation };
+  thread = record (passed t access.rd done.value) { reservation = reserved access t.reservation };
 }
 
--- whether an access is a store-conditional, which is done only on a reservation that matches it
-abbrev pub is_conditional : AccessOp → Bool
-is_conditional Sc = true
-is_conditional _ = false
+-- an access works on the number that its bytes hold
+abbrev pub accessed : FinMap nat_cmp ℕ → Thread → AccessAsked → Change
+accessed memory t access = completed memory t access (finish_of access (loaded_number (byte_at memory) access.addr access.size))
 
-abbrev pub lacks_reservation : Thread → Asked → Bool
-lacks_reservation t access = is_conditional access.op && not (matches t.reservation access)
-
--- an access: its bytes' rights are tested, and then it works on the number that they hold. A store-conditional
--- without a reservation can only fail, which is another action
-abbrev pub accessed : Setup → FinMap nat_cmp ℕ → Thread → Asked → Option Change
-accessed w memory t access =
-    if not (is_granted w access) then Some (thread_change memory (trapped t (access_fault access.op)))
-    else (if lacks_reservation t access then None
-    else Some (completed memory t access (finish_of access (loaded_number (byte_at memory) access.addr access.size))))
-
--- what a meaning changes, for the thread with this number
-abbrev pub executed_as : Setup → FinMap nat_cmp ℕ → ℕ → Thread → Meaning → Option Change
-executed_as w memory number t (Next rd value pc) = Some (thread_change memory (record t { regs = with_register t.regs rd value; pc = pc }))
-executed_as w memory number t (Access access) = accessed w memory t access
-executed_as w memory number t Call = Some (thread_change memory (called w number t))
-executed_as w memory number t (Trap cause) = Some (thread_change memory (trapped t cause))
+-- what a thread's next step changes. A store-conditional without its reservation can only fail, which is another
+-- action. A write begins with no bytes read, a thread that exits leaves its tile, and one that traps stays where it is
+abbrev pub executed_by_step : FinMap nat_cmp ℕ → Thread → Step → Option Change
+executed_by_step memory t (Next class rd value pc) = Some (thread_change memory (record t { regs = with_register t.regs rd value; pc = pc }))
+executed_by_step memory t (Access access) = Some (accessed memory t access)
+executed_by_step memory t (ScFails rd) = None
+executed_by_step memory t (Answer value) = Some (thread_change memory (past_call t value))
+executed_by_step memory t (Ask call) = Some (thread_change memory (record t { status = Asked call }))
+executed_by_step memory t (Write addr len) = Some (thread_change memory (record t { status = Writing addr len [] }))
+executed_by_step memory t (Exit code) = Some (thread_change memory (record t { tile = None; status = Left code }))
+executed_by_step memory t (Trap cause) = Some (thread_change memory (record t { status = Trapped cause t.pc }))
 
 -- a ready thread executes its next instruction
 abbrev pub executed_by : Setup → FinMap nat_cmp ℕ → ℕ → Thread → Status → Option Change
-executed_by w memory number t Ready = executed_as w memory number t (next_meaning w t)
+executed_by w memory number t Ready = executed_by_step memory t (step_of w number t)
 executed_by w memory number t _ = None
 
 abbrev pub executed : Setup → FinMap nat_cmp ℕ → ℕ → Thread → Option Change
 executed w memory number t = executed_by w memory number t t.status
 
--- the store-conditional that a meaning asks for, where its bytes may be written
-abbrev pub conditional_of : Setup → Meaning → Option Asked
-conditional_of w (Access access) = if is_conditional access.op && is_granted w access then Some access else None
-conditional_of w _ = None
+-- the register that a store-conditional answers in, where the step is one: with its reservation or without
+abbrev pub conditional_rd : Step → Option ℕ
+conditional_rd (ScFails rd) = Some rd
+conditional_rd (Access access) = if is_conditional access.op then Some access.rd else None
+conditional_rd _ = None
 
--- the store-conditional that a ready thread is at, past the tests of its alignment and its bytes' rights
-abbrev pub conditional_by : Setup → Thread → Status → Option Asked
-conditional_by w t Ready = conditional_of w (next_meaning w t)
-conditional_by w t _ = None
+-- a store-conditional of a ready thread fails: rd gets 1, nothing is written, and the reservation ends
+abbrev pub failed_conditional : Thread → ℕ → Thread
+failed_conditional t rd = record (passed t rd 1) { reservation = None }
 
-abbrev pub conditional : Setup → Thread → Option Asked
-conditional w t = conditional_by w t t.status
+abbrev pub failed_by : Setup → ℕ → Thread → Status → Option Thread
+failed_by w number t Ready = option_map (failed_conditional t) (conditional_rd (step_of w number t))
+failed_by w number t _ = None
 
--- a store-conditional fails: rd gets 1, nothing is written, and the reservation ends
-abbrev pub failed : Setup → Thread → Option Thread
-failed w t = option_map (λ access. record (passed t access.rd 1) { reservation = None }) (conditional w t)
+abbrev pub failed : Setup → ℕ → Thread → Option Thread
+failed w number t = failed_by w number t t.status
 
 -- a write with bytes still to read reads the next one
 abbrev pub loaded_by : FinMap nat_cmp ℕ → Thread → Status → Option Thread
-loaded_by memory t (Writing address len bytes) =
+loaded_by memory t (Writing addr len bytes) =
     if nat_lt (length bytes) len
-    then Some (record t { status = Writing address len (bytes ++ byte_at memory ((address + length bytes) % 2 ^ 64) ∷ []) })
+    then Some (record t { status = Writing addr len (bytes ++ byte_around memory (addr + length bytes) ∷ []) })
     else None
 loaded_by memory t _ = None
 
@@ -159,7 +120,7 @@ loaded memory t = loaded_by memory t t.status
 
 -- a thread with an answer takes it
 abbrev pub returned_by : Thread → Status → Option Thread
-returned_by t (Answered value) = Some (answered t value)
+returned_by t (Answered value) = Some (past_call t value)
 returned_by t _ = None
 
 abbrev pub returned : Thread → Option Thread
@@ -178,12 +139,12 @@ abbrev pub is_vacant : Setup → State → ℕ → Bool
 is_vacant w s tile = nat_lt tile w.config.tiles && not (list_any (stands_on tile) s.threads)
 
 -- a new thread begins on a vacant tile
-abbrev pub begun_by : Setup → ℕ → Bool → Status → Option Thread
-begun_by w tile true (New entry arg) = Some (started w tile entry arg)
-begun_by w tile vacant status = None
+abbrev pub begun_by : Setup → ℕ → Thread → Bool → Status → Option Thread
+begun_by w tile t true (New entry arg) = Some (started w tile entry arg t)
+begun_by w tile t vacant status = None
 
 abbrev pub begun : Setup → State → ℕ → Thread → Option Thread
-begun w s tile t = begun_by w tile (is_vacant w s tile) t.status
+begun w s tile t = begun_by w tile t (is_vacant w s tile) t.status
 
 -- the state with a change by the thread of this number: the others lose their reservations of what it wrote
 abbrev pub with_change : State → ℕ → Change → State
@@ -201,25 +162,14 @@ with_move s number move = option_map (with_thread s number) (option_and_then mov
 abbrev pub with_instruction : Setup → State → ℕ → Option State
 with_instruction w s number = option_map (with_change s number) (option_and_then (executed w s.memory number) (slice_get s.threads number))
 
--- nothing is served after the end
-abbrev pub served_before : Option End → State → ℕ → Option State
-served_before (Some end) s number = None
-served_before None s number = option_and_then (served s number) (slice_get s.threads number)
-
 -- the state after an action; none where it isn't legal
 abbrev pub act : Setup → State → Action → Option State
 act w s (Exec number) = with_instruction w s number
-act w s (FailSc number) = with_move s number (failed w)
+act w s (FailSc number) = with_move s number (failed w number)
 act w s (Load number) = with_move s number (loaded s.memory)
+act w s (Serve number) = served w s number
 act w s (Return number) = with_move s number returned
-act w s (Serve number) = served_before s.ended s number
 act w s (Begin number tile) = with_move s number (begun w s tile)
-
--- the trap that a ready thread's next instruction makes, if it makes one
-abbrev pub trap_of : Setup → Meaning → Option Cause
-trap_of w (Access access) = if is_granted w access then None else Some (access_fault access.op)
-trap_of w (Trap cause) = Some cause
-trap_of w _ = None
 
 -- in this state the thread with this number is ready at this pc, and its instruction there traps with this cause
 pub record IsTrapping (w : Setup) (s : State) (number : ℕ) (cause : Cause) (pc : ℕ) : Type 0 where
@@ -227,4 +177,4 @@ pub record IsTrapping (w : Setup) (s : State) (number : ℕ) (cause : Cause) (pc
   pub is_thread : slice_get s.threads number ≡ Some thread
   pub is_ready : thread.status ≡ Ready
   pub is_there : thread.pc ≡ pc
-  pub traps : trap_of w (next_meaning w thread) ≡ Some cause
+  pub traps : step_of w number thread ≡ Trap cause

@@ -1,11 +1,13 @@
 pub mod Memory
-pub mod Regions
 pub mod State
 pub mod Reservation
-pub mod Calls
 pub mod Action
 pub mod Serving
 pub mod Run
 pub mod Gives
+pub mod Inner
 pub use Rattle.elf_image.specs.Image
 pub use Rattle.elf_image.specs.Layout
+pub use Rattle.rv_hart.specs.Step
+pub use Rattle.serving.specs.ControlData
+pub use Rattle.serving.specs.Serving as ServingRules

@@ -1,102 +1,101 @@
--- What the control server makes of the flat machine's state. This simulator's own.
-use Rattle.std.specs.Prelude.{ℕ, ◌+◌, ◌==◌, Bool, true, false, not, List, ◌++◌, length, nat_lt, find, filter, slice_get, slice_set, if◌then◌else◌, Option, Some, None, is_some}
-use Rattle.std.specs.Option.{option_map_or}
-use Rattle.std.specs.List.{list_any}
-use Rattle.sim_base.specs.declared.ends.End.TheVariants.{Exit, Trap, Deadlock}
+-- Serving on the flat machine: by the one definition of serving, from the control data that the state shows. This
+-- simulator's own.
+use Rattle.std.specs.Prelude.{ℕ, List, [], ◌∷◌, ◌++◌, map, length, nat_lt, if◌then◌else◌, slice_get, true, Option, Some, None, option_and_then}
+use Rattle.std.specs.Option.{option_map}
+use Rattle.std.specs.Ordering.{nat_cmp}
+use Rattle.std.specs.FinMap.{FinMap}
 use Rattle.sim_base.specs.declared.ends.End.{End}
+use Rattle.sim_base.specs.LittleEndian.{loaded}
+use Rattle.elf_image.specs.Layout.{Setup}
+use Rattle.wire_msg.specs.declared.calls.Call.TheVariants.{Write, FutexWait}
+use Rattle.serving.specs.declared.control_data.Fate.{Fate}
+use Rattle.serving.specs.declared.control_data.Fate.TheVariants.{Live, Exited}
+use Rattle.serving.specs.declared.control_data.Request.{Request}
+use Rattle.serving.specs.declared.control_data.Request.TheVariants.{Call as CallRequest, Exit, Trap}
+use Rattle.serving.specs.ControlData.{ControlData}
+use Rattle.serving.specs.Serving.{Woken, Born, Own, answer, park, leave, Served, serve}
 use Rattle.flat_machine.specs.declared.threads.Thread.{Thread}
 use Rattle.flat_machine.specs.declared.threads.Status.{Status}
 use Rattle.flat_machine.specs.declared.threads.Status.TheVariants.{Writing, Asked, Parked, Answered, Left, Trapped, Gone}
-use Rattle.flat_machine.specs.declared.threads.Joiner.{Joiner}
-use Rattle.wire_msg.specs.declared.calls.Call.{Call}
-use Rattle.wire_msg.specs.declared.calls.Call.TheVariants.{ExitGroup}
-use Rattle.flat_machine.specs.State.{State, with_thread}
-use Rattle.flat_machine.specs.Calls.{minus}
+use Rattle.flat_machine.specs.Memory.{byte_around}
+use Rattle.flat_machine.specs.State.{State, new_thread, with_status}
 
--- the most that a program may output, in bytes
-abbrev pub most_output : ℕ
-most_output = 1048576
+-- a thread's fate, by its status: it is live until its exit was served
+abbrev pub fate_by : Option ℕ → Status → Fate
+fate_by joiner (Gone code joined) = Exited code joined
+fate_by joiner _ = Live joiner
 
--- the thread waits with the answer to its call
-abbrev pub with_answer : State → ℕ → Thread → ℕ → State
-with_answer s number t value = with_thread s number (record t { status = Answered value })
+abbrev pub fate_of : Thread → Fate
+fate_of t = fate_by t.joiner t.status
 
--- whether an output of so many bytes more would be too much
-abbrev pub is_too_much : List ℕ → List ℕ → Bool
-is_too_much output bytes = nat_lt most_output (length output + length bytes)
+-- the control data, seen in the state
+abbrev pub control_of : State → ControlData
+control_of s = record { fates = map fate_of s.threads; waiters = s.waiters; heap_break = s.heap_break; output = s.output; ended = s.ended }
 
--- a write whose bytes are all read: they are output, unless that would be too much
-abbrev pub write_answer : List ℕ → List ℕ → ℕ
-write_answer output bytes = if is_too_much output bytes then minus 28 else length bytes
+-- what a thread asks to be served, by its status: a write whose bytes are all read, a call, its exit or its trap
+abbrev pub request_of : Status → Option Request
+request_of (Writing addr len bytes) = if nat_lt (length bytes) len then None else Some (CallRequest (Write bytes))
+request_of (Asked call) = Some (CallRequest call)
+request_of (Left code) = Some (Exit code)
+request_of (Trapped cause pc) = Some (Trap cause pc)
+request_of _ = None
 
-abbrev pub output_with : List ℕ → List ℕ → List ℕ
-output_with output bytes = if is_too_much output bytes then output else output ++ bytes
+abbrev pub request_at : State → ℕ → Option Request
+request_at s number = option_and_then (λ t. request_of t.status) (slice_get s.threads number)
 
-abbrev pub write_served : State → ℕ → Thread → List ℕ → State
-write_served s number t bytes =
-    record (with_answer s number t (write_answer s.output bytes)) { output = output_with s.output bytes }
+-- the number in the four bytes that a futex wait looks at
+abbrev pub word_of : FinMap nat_cmp ℕ → Request → ℕ
+word_of memory (CallRequest (FutexWait addr value)) = loaded (byte_around memory) addr 4
+word_of memory _ = 0
 
--- a call that is served at once, where there is no end yet. No thread asks for any other one so far
-abbrev pub call_served : State → Call → Option State
-call_served s (ExitGroup code) = Some (record s { ended = Some (Exit code) })
-call_served s _ = None
+-- threads by their fates. Who is parked joining a thread that has exited doesn't count any more
+abbrev pub with_fate : Thread → Fate → Thread
+with_fate t (Exited code joined) = record t { status = Gone code joined }
+with_fate t (Live joiner) = record t { joiner = joiner }
 
--- a thread is live until its exit is served
-abbrev pub is_live_status : Status → Bool
-is_live_status (Gone code joined) = false
-is_live_status _ = true
+abbrev pub with_fates : List Thread → List Fate → List Thread
+with_fates [] fates = []
+with_fates (t ∷ ts) [] = t ∷ ts
+with_fates (t ∷ ts) (fate ∷ fates) = with_fate t fate ∷ with_fates ts fates
 
-abbrev pub is_live : Thread → Bool
-is_live t = is_live_status t.status
+-- who is born
+abbrev pub born_threads : Option Born → List Thread
+born_threads None = []
+born_threads (Some b) = new_thread b.entry b.arg ∷ []
 
--- whether a thread is live and doesn't sleep
-abbrev pub is_awake_status : Status → Bool
-is_awake_status (Gone code joined) = false
-is_awake_status Parked = false
-is_awake_status _ = true
+-- the threads where those that are woken have their answers
+abbrev pub woken_threads : List Woken → List Thread → List Thread
+woken_threads [] threads = threads
+woken_threads (w ∷ ws) threads = woken_threads ws (with_status threads w.thread (Answered w.value))
 
-abbrev pub is_awake : Thread → Bool
-is_awake t = is_awake_status t.status
+-- the caller's own part
+abbrev pub with_own : List Thread → ℕ → Own → List Thread
+with_own threads number (answer value) = with_status threads number (Answered value)
+with_own threads number park = with_status threads number Parked
+with_own threads number leave = threads
 
--- the end after an exit: it is the program's where it was the last live thread's, and where all live threads
--- sleep there is none to wake them
-abbrev pub end_after : List Thread → ℕ → Option End
-end_after threads code =
-    if not (list_any is_live threads) then Some (Exit code) else (if not (list_any is_awake threads) then Some Deadlock else None)
-
--- whether somebody sleeps until this thread exits; those who sleep for others
-abbrev pub waits_for : ℕ → Joiner → Bool
-waits_for target j = j.target == target
-
--- the threads where one that slept has this answer
-abbrev pub woken : List Thread → ℕ → ℕ → List Thread
-woken threads number value = option_map_or (λ t. slice_set threads number (record t { status = Answered value })) (slice_get threads number) threads
-
--- the threads where the one that slept for an exit, if any, has its code
-abbrev pub joiner_woken : Option Joiner → List Thread → ℕ → List Thread
-joiner_woken None threads code = threads
-joiner_woken (Some j) threads code = woken threads j.thread code
-
--- an exit: the thread is gone, and a thread that slept until it exits gets its code and has joined it
-abbrev pub exit_threads : State → ℕ → Thread → ℕ → List Thread
-exit_threads s number t code =
-    let joiner : Option Joiner = find (waits_for number) s.joiners in
-    joiner_woken joiner (slice_set s.threads number (record t { status = Gone code (is_some joiner) })) code
-
-abbrev pub exit_served : State → ℕ → Thread → ℕ → State
-exit_served s number t code = record s {
-  threads = exit_threads s number t code;
-  joiners = filter (λ j. not (waits_for number j)) s.joiners;
-  ended = end_after (exit_threads s number t code) code;
+-- the state by what serving a thread made: the threads by their fates, then who is born, who is woken, and last the
+-- caller's own part
+unfoldable pub after_serving : State → ℕ → Served → State
+after_serving s number made = record {
+  memory = s.memory;
+  threads = with_own (woken_threads made.woken (with_fates s.threads made.control.fates ++ born_threads made.born)) number made.own;
+  waiters = made.control.waiters;
+  heap_break = made.control.heap_break;
+  output = made.control.output;
+  ended = made.control.ended;
 }
 
--- serving a thread by what it is doing; none where it asks for nothing
-abbrev pub served_by : State → ℕ → Thread → Status → Option State
-served_by s number t (Writing address len bytes) = if nat_lt (length bytes) len then None else Some (write_served s number t bytes)
-served_by s number t (Asked call) = call_served s call
-served_by s number t (Left code) = Some (exit_served s number t code)
-served_by s number t (Trapped cause pc) = Some (record s { ended = Some (Trap number cause pc) })
-served_by s number t _ = None
+-- the state after a thread's request is served. A live thread has at most one request, so no other one waits
+abbrev pub after_request : Setup → State → ℕ → Request → State
+after_request w s number request = after_serving s number (serve w (control_of s) number request (word_of s.memory request) true)
 
-abbrev pub served : State → ℕ → Thread → Option State
-served s number t = served_by s number t t.status
+-- nothing is served after the end
+abbrev pub served_before : Option End → Setup → State → ℕ → Option State
+served_before (Some end) w s number = None
+served_before None w s number = option_map (after_request w s number) (request_at s number)
+
+-- the state after the request of the thread with this number is served; none where there is an end, no such thread, or
+-- no request
+abbrev pub served : Setup → State → ℕ → Option State
+served w s number = served_before s.ended w s number

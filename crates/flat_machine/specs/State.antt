@@ -1,49 +1,44 @@
--- The states of the flat machine. This simulator's own; registers and pc are those of the RISC-V ISA
--- manual, and what a register holds at the start is as its calling convention names them.
-use Rattle.std.specs.Prelude.{ℕ, ◌-◌, List, [], ◌∷◌, length, Option, Some, None, slice_set}
+-- The states of the flat machine. This simulator's own; registers and pc are those of the RISC-V ISA manual.
+use Rattle.std.specs.Prelude.{ℕ, List, [], ◌∷◌, Option, Some, None, slice_get, slice_set}
+use Rattle.std.specs.Option.{option_map_or}
 use Rattle.std.specs.Ordering.{nat_cmp}
 use Rattle.std.specs.FinMap.{FinMap}
 use Rattle.sim_base.specs.declared.ends.End.{End}
-use Rattle.rv_exec.specs.Registers.{zeros, with_register}
-use Rattle.elf_image.specs.Layout.{Setup, heap_start, stack_end}
+use Rattle.rv_exec.specs.Registers.{zeros}
+use Rattle.rv_hart.specs.Start.{start_registers}
+use Rattle.elf_image.specs.Layout.{Setup, heap_start}
+use Rattle.serving.specs.declared.control_data.Waiter.{Waiter}
 use Rattle.flat_machine.specs.declared.threads.Thread.{Thread}
-use Rattle.flat_machine.specs.declared.threads.Waiter.{Waiter}
-use Rattle.flat_machine.specs.declared.threads.Joiner.{Joiner}
-use Rattle.flat_machine.specs.declared.threads.Status.TheVariants.{Ready}
+use Rattle.flat_machine.specs.declared.threads.Status.{Status}
+use Rattle.flat_machine.specs.declared.threads.Status.TheVariants.{New, Ready}
 use Rattle.flat_machine.specs.Memory.{start_memory}
 
--- the bytes at the mapped addresses; the threads by number; who sleeps at an address, in order of falling
--- asleep; who sleeps until a thread exits; the end of the heap's used part; what was output; and the end if
--- there is one
+-- the bytes at the mapped addresses; the threads by number; who is parked at which word, in order of parking; the end
+-- of the heap's used part; what was output; and the end if there is one. Threads are numbered from 0 on, and no number
+-- is used again
 pub record State : Type 0 where
   pub memory : FinMap nat_cmp ℕ
   pub threads : List Thread
   pub waiters : List Waiter
-  pub joiners : List Joiner
   pub heap_break : ℕ
   pub output : List ℕ
   pub ended : Option End
 
--- the number that the next thread gets: threads are numbered from 0 on, and no number is used again
-abbrev pub next_number : State → ℕ
-next_number s = length s.threads
-
--- the registers of a thread that begins on a tile: sp (x2) is 64 bytes below the end of the tile's stack, a0
--- (x10) has the argument, and every other register is zero
-abbrev pub start_registers : Setup → ℕ → ℕ → List ℕ
-start_registers w tile arg = with_register (with_register zeros 2 (stack_end w tile - 64)) 10 arg
+-- a thread that is to begin at an entry with an argument
+abbrev pub new_thread : ℕ → ℕ → Thread
+new_thread entry arg = record { regs = zeros; pc = entry; tile = None; reservation = None; joiner = None; status = New entry arg }
 
 -- a thread that begins on a tile
-abbrev pub started : Setup → ℕ → ℕ → ℕ → Thread
-started w tile entry arg = record { regs = start_registers w tile arg; pc = entry; tile = Some tile; reservation = None; status = Ready }
+abbrev pub started : Setup → ℕ → ℕ → ℕ → Thread → Thread
+started w tile entry arg t =
+    record t { regs = start_registers w tile arg; pc = entry; tile = Some tile; reservation = None; status = Ready }
 
 -- the state before the program runs: thread 0 begins on tile 0 at the image's entry with argument 0
 abbrev pub start : Setup → State
 start w = record {
   memory = start_memory w;
-  threads = started w 0 w.image.entry 0 ∷ [];
+  threads = started w 0 w.image.entry 0 (new_thread w.image.entry 0) ∷ [];
   waiters = [];
-  joiners = [];
   heap_break = heap_start w;
   output = [];
   ended = None;
@@ -52,3 +47,8 @@ start w = record {
 -- the state with another thread of this number
 abbrev pub with_thread : State → ℕ → Thread → State
 with_thread s number thread = record s { threads = slice_set s.threads number thread }
+
+-- the threads where the one with this number, if there is one, has this status
+abbrev pub with_status : List Thread → ℕ → Status → List Thread
+with_status threads number status =
+    option_map_or (λ t. slice_set threads number (record t { status = status })) (slice_get threads number) threads

@@ -2,16 +2,15 @@
 //! machine that everything else is measured against, and its interpreter.
 #![tactic(auto)]
 
-mod calls;
 mod machine;
 mod moves;
 mod regions;
+mod requests;
 mod reservations;
 mod runner;
-mod serving;
 mod threads;
 
 pub use machine::{ActFault, Flat};
 pub use regions::Memory;
-pub use runner::{one_legal_action, run, trap_has_cause};
-pub use threads::{Joiner, Span, Status, Thread, Waiter};
+pub use runner::{mapped_stays, one_legal_action, run, trap_has_cause};
+pub use threads::{Status, Thread};

@@ -1,16 +1,26 @@
-ghost use Rattle.std.specs.Prelude.{◌≡◌, ◌<◌, IfOk, false, length, slice_get};
-ghost use Rattle.std.specs.Option.{option_map};
+ghost use Rattle.std.specs.Prelude.{◌≡◌, ◌<◌, IfOk, OnOk, OnErr, Some, false, true, length};
+ghost use Rattle.flat_machine.specs.Inner.{thread_of, action_by};
 
 use crate::moves;
 use crate::regions::Memory;
+use crate::requests::{
+    end_of_exit, is_full, is_stuck, join_of, joiner_of, request_of, set_joiner, set_status, wake,
+};
 use crate::reservations::end_others;
-use crate::serving::{end_after, serve_write, take_joiner, wake_joiner};
-use crate::threads::{Joiner, Status, Thread, Waiter};
+use crate::threads::{Status, Thread};
 use elf_image::World;
+use serving::{Join, Request, Waiter, break_after, write_output};
 use sim_base::{Action, Bytes, End, NoMemory, NodeId};
 use std::alloc::Global;
 use std::marker::Model;
 use wire_msg::Call;
+
+/// Linux's numbers of the errors that calls answer, negated.
+const NO_SUCH_THREAD: u64 = u64::MAX - 2;
+
+const TRY_AGAIN: u64 = u64::MAX - 10;
+
+const INVALID: u64 = u64::MAX - 21;
 
 /// Why an action wasn't made. Either way nothing changed.
 #[derive(Clone, Copy, Debug, PartialEq, Eq)]
@@ -38,7 +48,6 @@ pub struct Flat {
     memory: Memory,
     threads: Vec<Thread>,
     waiters: Vec<Waiter>,
-    joiners: Vec<Joiner>,
     heap_break: u64,
     output: Bytes,
     ended: Option<End>,
@@ -53,29 +62,37 @@ impl Model for Flat {
 
     ghost coded = { Prim.hlevel (codes, memory_code) };
 
-    ghost view = { λ f. record { memory = f.memory; threads = f.threads.items; waiters = f.waiters.items; joiners = f.joiners.items; heap_break = f.heap_break; output = f.output; ended = f.ended } };
+    ghost view = { λ f. record { memory = f.memory; threads = f.threads.items; waiters = f.waiters.items; heap_break = f.heap_break; output = f.output; ended = f.ended } };
 }
 
 impl Flat {
-    ghost use Rattle.flat_machine.specs.State.{start};
+    ghost use Rattle.elf_image.specs.Layout.{Setup};
+    ghost use Rattle.wire_msg.specs.declared.calls.Call.TheVariants.{Write, FutexWait};
+    ghost use Rattle.serving.specs.declared.control_data.Request.TheVariants.{Call as CallRequest};
+    ghost use Rattle.serving.specs.Serving.{Served, request_served, call_served, spawn_served, join_served, write_served, wait_served, wake_served, brk_served, exit_served, ended};
+    ghost use Rattle.flat_machine.specs.declared.threads.Status.TheVariants.{Answered, Parked};
+    ghost use Rattle.flat_machine.specs.State.{start, with_status};
     ghost use Rattle.flat_machine.specs.Memory.{byte_at};
-    ghost use Rattle.flat_machine.specs.Serving.{exit_served};
-    ghost use Rattle.flat_machine.specs.Action.{act, with_move, with_instruction, failed, loaded, returned, begun, is_vacant, served_before};
+    ghost use Rattle.flat_machine.specs.Serving.{control_of, word_of, served};
+    ghost use Rattle.flat_machine.specs.Action.{act, with_move, with_instruction, failed, loaded, returned, begun, is_vacant};
     ghost use Rattle.flat_machine.specs.Gives.{Acts};
-    ghost use Rattle.flat_machine.specs.Run.{legal_action, onward, IsReady};
+    ghost use Rattle.flat_machine.specs.Run.{legal_action, onward};
+    ghost use Rattle.flat_machine.specs.Inner.{concluded, with_closing, IsAloneReady};
 
     /// The state before the program runs: thread 0 is ready on tile 0 at the image's entry, with argument 0.
     pub fn start(alloc: Global, world: &World) -> Result<Flat, NoMemory>
         ensures { IfOk result (λ flat. flat ≡ start world.now) }
     {
         let memory = Memory::start(alloc, world)?;
+        let entry = world.entry();
+        let mut first = moves::new_thread(entry, 0);
+        moves::start(world, 0, entry, 0, &mut first);
         let mut threads = Vec::new(alloc);
-        threads.push(moves::start(world, 0, world.entry(), 0))?;
+        threads.push(first)?;
         Ok(Flat {
             memory,
             threads,
             waiters: Vec::new(alloc),
-            joiners: Vec::new(alloc),
             heap_break: world.layout().heap_start,
             output: Bytes::new(alloc, 0)?,
             ended: None,
@@ -86,11 +103,14 @@ impl Flat {
     pub fn act(&mut self, alloc: Global, world: &World, action: &Action) -> Result<(), ActFault>
         ensures { Acts result self.old self.new (act world.now self.old action.now) }
     {
+        if thread_of(action) as usize >= self.threads.len() {
+            return Err(ActFault::NotLegal);
+        }
         match *action {
             Action::Exec { thread } => self.exec(alloc, world, thread),
             Action::FailSc { thread } => self.fail_conditional(world, thread),
             Action::Load { thread } => self.load(thread),
-            Action::Serve { thread } => self.serve(thread),
+            Action::Serve { thread } => self.serve(alloc, world, thread),
             Action::Return { thread } => self.take_answer(thread),
             Action::Begin { thread, tile } => self.begin(world, thread, tile),
         }
@@ -98,12 +118,10 @@ impl Flat {
 
     /// A thread executes its next instruction.
     fn exec(&mut self, alloc: Global, world: &World, number: u32) -> Result<(), ActFault>
+        requires { number < length self.old.threads }
         ensures { Acts result self.old self.new (with_instruction world.now self.old number) }
     {
         let index = number as usize;
-        if index >= self.threads.len() {
-            return Err(ActFault::NotLegal);
-        }
         match moves::execute(
             alloc,
             world,
@@ -121,49 +139,37 @@ impl Flat {
 
     /// A thread's store-conditional fails.
     fn fail_conditional(&mut self, world: &World, number: u32) -> Result<(), ActFault>
-        ensures { Acts result self.old self.new (with_move self.old number (failed world.now)) }
+        requires { number < length self.old.threads }
+        ensures { Acts result self.old self.new (with_move self.old number (failed world.now number)) }
     {
-        let index = number as usize;
-        if index >= self.threads.len() {
-            return Err(ActFault::NotLegal);
-        }
-        moves::fail(world, &mut self.threads[index])
+        moves::fail(world, number, &mut self.threads[number as usize])
     }
 
     /// A thread reads the next byte of its write call.
     fn load(&mut self, number: u32) -> Result<(), ActFault>
+        requires { number < length self.old.threads }
         ensures { Acts result self.old self.new (with_move self.old number (loaded self.old.memory)) }
     {
-        let index = number as usize;
-        if index >= self.threads.len() {
-            return Err(ActFault::NotLegal);
-        }
-        moves::load(&self.memory, &mut self.threads[index])
+        moves::load(&self.memory, &mut self.threads[number as usize])
     }
 
     /// A thread takes the answer of its call.
     fn take_answer(&mut self, number: u32) -> Result<(), ActFault>
+        requires { number < length self.old.threads }
         ensures { Acts result self.old self.new (with_move self.old number returned) }
     {
-        let index = number as usize;
-        if index >= self.threads.len() {
-            return Err(ActFault::NotLegal);
-        }
-        moves::take_answer(&mut self.threads[index])
+        moves::take_answer(&mut self.threads[number as usize])
     }
 
     /// A new thread begins on a tile.
     fn begin(&mut self, world: &World, number: u32, tile: NodeId) -> Result<(), ActFault>
+        requires { number < length self.old.threads }
         ensures { Acts result self.old self.new (with_move self.old number (begun world.now self.old tile)) }
     {
-        let index = number as usize;
-        if index >= self.threads.len() {
-            return Err(ActFault::NotLegal);
-        }
         if !self.is_vacant(world, tile) {
             return Err(ActFault::NotLegal);
         }
-        moves::begin(world, tile, &mut self.threads[index])
+        moves::begin(world, tile, &mut self.threads[number as usize])
     }
 
     /// Whether a tile is one of the machine's, and no thread stands on it.
@@ -174,133 +180,237 @@ impl Flat {
     }
 
     /// A thread's write, call, exit or trap is served.
-    fn serve(&mut self, number: u32) -> Result<(), ActFault>
-        ensures { Acts result self.old self.new (served_before self.old.ended self.old number) }
+    fn serve(&mut self, alloc: Global, world: &World, number: u32) -> Result<(), ActFault>
+        requires { number < length self.old.threads }
+        ensures { Acts result self.old self.new (served world.now self.old number) }
     {
-        let index = number as usize;
-        if self.ended.is_some() || index >= self.threads.len() {
+        if self.ended.is_some() {
             return Err(ActFault::NotLegal);
         }
-        match &self.threads[index].status {
-            Status::Writing { length, bytes, .. } => {
-                if (bytes.len() as u64) < *length {
-                    return Err(ActFault::NotLegal);
-                }
-                let value = serve_write(&mut self.output, bytes)?;
-                self.threads[index].status = Status::Answered { value };
+        match request_of(alloc, &self.threads[number as usize].status)? {
+            Some(request) => {
+                self.serve_request(world, number, &request)?;
+                Ok(())
             }
-            Status::Asked {
-                call: Call::ExitGroup { code },
-            } => self.ended = Some(End::Exit { code: *code }),
-            Status::Left { code } => {
-                let code = *code;
-                self.serve_exit(number, code);
-            }
-            Status::Trapped { cause, pc } => {
+            None => Err(ActFault::NotLegal),
+        }
+    }
+
+    /// A thread's request is served.
+    fn serve_request(
+        &mut self,
+        world: &World,
+        number: u32,
+        request: &Request,
+    ) -> Result<(), NoMemory>
+        ensures ok { OnOk result (self.new ≡ concluded self.old number
+            (request_served world.now (control_of self.old) number request.now (word_of self.old.memory request.now))) }
+        ensures err { OnErr result (self.new ≡ self.old) }
+    {
+        match request {
+            Request::Call { call } => self.serve_call(world, number, call)?,
+            Request::Exit { code } => self.serve_exit(number, *code),
+            Request::Trap { cause, pc } => {
                 self.ended = Some(End::Trap {
                     thread: number,
                     cause: *cause,
                     pc: *pc,
                 });
             }
-            Status::Asked { .. }
-            | Status::New { .. }
-            | Status::Ready
-            | Status::Parked
-            | Status::Answered { .. }
-            | Status::Gone { .. } => return Err(ActFault::NotLegal),
         }
         Ok(())
     }
 
-    /// A thread's exit with a code: who slept until then has the code.
-    fn serve_exit(&mut self, number: u32, code: u8)
-        requires { number < length self.old.threads }
-        ensures { option_map (λ t. exit_served self.old number t code) (slice_get self.old.threads number) ≡ Some self.new }
+    /// A thread's call is served.
+    fn serve_call(&mut self, world: &World, number: u32, call: &Call) -> Result<(), NoMemory>
+        ensures ok { OnOk result (self.new ≡ concluded self.old number
+            (call_served world.now (control_of self.old) number call.now (word_of self.old.memory (CallRequest call.now)))) }
+        ensures err { OnErr result (self.new ≡ self.old) }
     {
-        let joiner = take_joiner(&mut self.joiners, number);
-        self.threads[number as usize].status = Status::Gone {
-            code,
-            joined: joiner.is_some(),
-        };
-        wake_joiner(&mut self.threads, joiner, code);
-        self.ended = end_after(self.threads.as_slice(), code);
+        match *call {
+            Call::Spawn { entry, arg } => self.serve_spawn(world, number, entry, arg)?,
+            Call::Join { thread } => self.serve_join(number, thread),
+            Call::Write { ref bytes } => self.serve_write(number, bytes)?,
+            Call::FutexWait { addr, value } => self.serve_wait(number, addr, value)?,
+            Call::FutexWake { addr, count } => self.serve_wake(number, addr, count),
+            Call::Brk { addr } => self.serve_brk(world, number, addr),
+            Call::ExitGroup { code } => self.ended = Some(End::Exit { code }),
+        }
+        Ok(())
     }
 
-    /// The one legal action of a machine of one thread. None where it has none, where it is at a
-    /// store-conditional past the tests of its address, and where its thread hasn't begun.
-    pub fn legal_action(&self, world: &World) -> Option<Action>
-        ensures { result ≡ legal_action world.now self.now }
+    /// A thread is spawned, to begin at an entry with an argument.
+    fn serve_spawn(
+        &mut self,
+        world: &World,
+        number: u32,
+        entry: u64,
+        arg: u64,
+    ) -> Result<(), NoMemory>
+        ensures ok { OnOk result (self.new ≡ concluded self.old number (spawn_served world.now (control_of self.old) entry arg)) }
+        ensures err { OnErr result (self.new ≡ self.old) }
     {
-        let thread = self.threads.first()?;
-        match &thread.status {
-            Status::Ready => {
-                if moves::conditional(world, thread).is_some() {
-                    None
-                } else {
-                    Some(Action::Exec { thread: 0 })
-                }
+        if entry % 4 != 0 {
+            self.answer(number, INVALID);
+        } else if is_full(world, self.threads.as_slice()) {
+            self.answer(number, TRY_AGAIN);
+        } else {
+            let born = self.threads.len() as u64;
+            self.threads.push(moves::new_thread(entry, arg))?;
+            self.answer(number, born);
+        }
+        Ok(())
+    }
+
+    /// A thread joins another one.
+    fn serve_join(&mut self, number: u32, target: u64)
+        ensures { self.new ≡ concluded self.old number (join_served (control_of self.old) number target) }
+    {
+        match join_of(self.threads.as_slice(), number, target) {
+            Join::Code { code } => {
+                let gone = Status::Gone { code, joined: true };
+                set_status(&mut self.threads, target as usize, gone);
+                self.answer(number, u64::from(code));
             }
-            Status::Writing { length, bytes, .. } if (bytes.len() as u64) < *length => {
-                Some(Action::Load { thread: 0 })
+            Join::Parked => {
+                set_joiner(&mut self.threads, target as usize, Some(number));
+                self.park(number);
             }
-            Status::Answered { .. } => Some(Action::Return { thread: 0 }),
-            Status::Writing { .. }
-            | Status::Asked {
-                call: Call::ExitGroup { .. },
-            }
-            | Status::Left { .. }
-            | Status::Trapped { .. } => {
-                if self.ended.is_some() {
-                    None
-                } else {
-                    Some(Action::Serve { thread: 0 })
-                }
-            }
-            Status::Asked { .. } | Status::New { .. } | Status::Parked | Status::Gone { .. } =>
-                None,
+            Join::NoThread => self.answer(number, NO_SUCH_THREAD),
+            Join::Invalid => self.answer(number, INVALID),
         }
     }
 
-    /// Makes the one legal action of a machine of one thread, and answers whether it had one.
+    /// A thread's bytes are output.
+    fn serve_write(&mut self, number: u32, bytes: &Bytes) -> Result<(), NoMemory>
+        ensures ok { OnOk result (self.new ≡ concluded self.old number (write_served (control_of self.old) bytes.now)) }
+        ensures err { OnErr result (self.new ≡ self.old) }
+    {
+        let value = write_output(&mut self.output, bytes)?;
+        self.answer(number, value);
+        Ok(())
+    }
+
+    /// A thread is parked at a word, where the word has a value.
+    fn serve_wait(&mut self, number: u32, addr: u64, value: u32) -> Result<(), NoMemory>
+        ensures ok { OnOk result (self.new ≡ concluded self.old number
+            (wait_served (control_of self.old) number addr value (word_of self.old.memory (CallRequest (FutexWait addr value))))) }
+        ensures err { OnErr result (self.new ≡ self.old) }
+    {
+        if self.memory.word_around(addr) == value {
+            self.waiters.push(Waiter {
+                thread: number,
+                addr,
+            })?;
+            self.park(number);
+        } else {
+            self.answer(number, TRY_AGAIN);
+        }
+        Ok(())
+    }
+
+    /// A thread wakes at most `count` of those that are parked at an address.
+    fn serve_wake(&mut self, number: u32, addr: u64, count: u32)
+        ensures { self.new ≡ concluded self.old number (wake_served (control_of self.old) addr count) }
+    {
+        let woken = wake(&mut self.threads, &mut self.waiters, addr, count);
+        self.answer(number, u64::from(woken));
+    }
+
+    /// A thread sets the break, or asks where it is.
+    fn serve_brk(&mut self, world: &World, number: u32, addr: u64)
+        ensures { self.new ≡ concluded self.old number (brk_served world.now (control_of self.old) addr) }
+    {
+        self.heap_break = break_after(world, self.heap_break, addr);
+        self.answer(number, self.heap_break);
+    }
+
+    /// A thread exits with a code, and who is parked joining it is woken with the code.
+    fn serve_exit(&mut self, number: u32, code: u8)
+        ensures { self.new ≡ concluded self.old number (exit_served (control_of self.old) number code) }
+    {
+        let joiner = joiner_of(self.threads.as_slice(), number);
+        let gone = Status::Gone {
+            code,
+            joined: joiner.is_some(),
+        };
+        set_status(&mut self.threads, number as usize, gone);
+        self.ended = end_of_exit(self.threads.as_slice(), code);
+        self.close();
+        if let Some(joiner) = joiner {
+            self.answer(joiner, u64::from(code));
+        }
+    }
+
+    /// A thread's call, or its waiting, has this answer.
+    fn answer(&mut self, number: u32, value: u64)
+        ensures { self.new ≡ record self.old { threads = with_status self.old.threads number (Answered value) } }
+    {
+        set_status(
+            &mut self.threads,
+            number as usize,
+            Status::Answered { value },
+        );
+    }
+
+    /// A thread is parked, after which the closing follows.
+    fn park(&mut self, number: u32)
+        ensures { self.new ≡ record (with_closing self.old) { threads = with_status self.old.threads number Parked } }
+    {
+        self.close();
+        set_status(&mut self.threads, number as usize, Status::Parked);
+    }
+
+    /// The closing: where threads are live and all of them are parked, the program ends by a deadlock, unless it has
+    /// ended already.
+    fn close(&mut self)
+        ensures { self.new ≡ with_closing self.old }
+    {
+        if self.ended.is_none() && is_stuck(self.threads.as_slice(), self.waiters.as_slice()) {
+            self.ended = Some(End::Deadlock);
+        }
+    }
+
+    /// The only legal action of a machine of one thread. None where there is none, where a store-conditional may fail
+    /// beside it, and where there is a second thread.
+    pub fn legal_action(&self, world: &World) -> Option<Action>
+        ensures { result ≡ legal_action world.now self.now }
+    {
+        match self.threads.as_slice() {
+            [thread] => legal_action_of(world, thread, self.ended),
+            _ => None,
+        }
+    }
+
+    /// Makes the only legal action of a machine of one thread, and answers whether it had one.
     pub(crate) fn go_on(&mut self, alloc: Global, world: &World) -> Result<bool, NoMemory>
         ensures onward { IfOk result (λ went. self.new ≡ onward world.now self.old) }
         ensures still { IfOk result (λ went. went ≡ false → legal_action world.now self.old ≡ None) }
     {
-        match self.threads.first() {
-            Some(
+        match self.threads.as_slice() {
+            [
                 Thread {
                     status: Status::Ready,
                     ..
                 },
-            ) => self.go_on_ready(alloc, world),
+            ] => self.go_on_ready(alloc, world),
             _ => self.go_on_otherwise(alloc, world),
         }
     }
 
-    /// The same where thread 0 is ready: its next instruction is made, unless it is a store-conditional that may
-    /// fail.
+    /// The same where thread 0 is alone and ready: its next instruction is made, unless it is a store-conditional that
+    /// may fail.
     fn go_on_ready(&mut self, alloc: Global, world: &World) -> Result<bool, NoMemory>
-        requires { IsReady self.old }
+        requires { IsAloneReady self.old }
         ensures onward { IfOk result (λ went. self.new ≡ onward world.now self.old) }
         ensures still { IfOk result (λ went. went ≡ false → legal_action world.now self.old ≡ None) }
     {
-        let meaning = moves::next_meaning(world, &self.threads[0]);
-        if moves::conditional_of(world, &meaning).is_some() {
+        let step = moves::step_of(world, 0, &self.threads[0]);
+        if moves::conditional_rd(&step).is_some() {
             return Ok(false);
         }
-        match moves::make(
-            alloc,
-            world,
-            0,
-            &mut self.memory,
-            &mut self.threads[0],
-            meaning,
-        ) {
-            Ok(written) => {
-                end_others(&mut self.threads, 0, written);
-                Ok(true)
-            }
+        match moves::make(alloc, &mut self.memory, &mut self.threads[0], step) {
+            Ok(_) => Ok(true),
             Err(ActFault::NoMemory) => Err(NoMemory),
             Err(ActFault::NotLegal) => unreachable!(),
         }
@@ -340,5 +450,50 @@ impl Flat {
         ensures { result ≡ self.now.ended }
     {
         self.ended
+    }
+}
+
+/// The thread that an action is about.
+fn thread_of(action: &Action) -> u32
+    ensures { result ≡ thread_of action.now }
+{
+    match *action {
+        Action::Exec { thread }
+        | Action::FailSc { thread }
+        | Action::Load { thread }
+        | Action::Serve { thread }
+        | Action::Return { thread }
+        | Action::Begin { thread, .. } => thread,
+    }
+}
+
+/// The only legal action of a thread 0 that is alone, where the program has this end or none.
+fn legal_action_of(world: &World, thread: &Thread, ended: Option<End>) -> Option<Action>
+    ensures { result ≡ action_by world.now thread.now ended thread.now.status }
+{
+    match &thread.status {
+        Status::Ready => {
+            let step = moves::step_of(world, 0, thread);
+            if moves::conditional_rd(&step).is_some() {
+                None
+            } else {
+                Some(Action::Exec { thread: 0 })
+            }
+        }
+        Status::Writing { len, bytes, .. } if (bytes.len() as u64) < *len => {
+            Some(Action::Load { thread: 0 })
+        }
+        Status::Answered { .. } => Some(Action::Return { thread: 0 }),
+        Status::Writing { .. }
+        | Status::Asked { .. }
+        | Status::Left { .. }
+        | Status::Trapped { .. } => {
+            if ended.is_some() {
+                None
+            } else {
+                Some(Action::Serve { thread: 0 })
+            }
+        }
+        Status::New { .. } | Status::Parked | Status::Gone { .. } => None,
     }
 }

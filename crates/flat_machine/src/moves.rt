@@ -1,44 +1,54 @@
 ghost use Rattle.std.specs.Prelude.{◌≡◌, ◌<◌, IfSome, true};
 ghost use Rattle.std.specs.List.{list_any};
-ghost use Rattle.flat_machine.specs.State.{started};
-ghost use Rattle.flat_machine.specs.Action.{Change, next_meaning, executed, executed_as, accessed, right_of, access_fault, is_granted, is_conditional, trapped, passed, conditional, conditional_of, failed, loaded, returned, stands_on, begun_by};
-ghost use Rattle.flat_machine.specs.Gives.{Acts, Executes};
-ghost use Rattle.rv_exec.specs.Effect.{HasRegister, HasAccess};
-ghost use Rattle.rv_exec.specs.Access.{IsAccess};
+ghost use Rattle.flat_machine.specs.State.{new_thread, started};
+ghost use Rattle.flat_machine.specs.Action.{Change, step_of, executed, executed_by_step, accessed, passed, past_call, conditional_rd, failed, failed_conditional, loaded, returned, stands_on, begun_by};
+ghost use Rattle.flat_machine.specs.Gives.{Acts};
+ghost use Rattle.flat_machine.specs.Inner.{Executes, HasRegister};
 
-use crate::calls::{answer, call};
 use crate::machine::ActFault;
 use crate::regions::Memory;
-use crate::reservations::{matches, reserved, span_of};
-use crate::threads::{Span, Status, Thread};
-use elf_image::{Right, World};
-use rv_decode::decode;
-use rv_exec::{Access, AccessOp, Meaning, Regs, effect, finish};
-use sim_base::{Cause, NodeId};
+use crate::threads::{Status, Thread};
+use elf_image::World;
+use rv_exec::{Access, AccessOp, Regs, finish};
+use rv_hart::{Span, Step, next_step, reserved, span_of, start_registers};
+use sim_base::{Bytes, NodeId};
 use std::alloc::Global;
 
-/// The stack pointer.
-const SP: u8 = 2;
-
-/// A thread's argument.
+/// The register that has the answer of a call.
 const A0: u8 = 10;
 
-/// A thread that begins on a tile, with `sp` 64 bytes below the end of the tile's stack, its argument in `a0` and
-/// every other register zero.
-pub(crate) fn start(world: &World, tile: NodeId, entry: u64, arg: u64) -> Thread
-    requires { tile < world.now.config.tiles }
-    ensures { result ≡ started world.now tile entry arg }
+/// A thread that is to begin at an entry with an argument.
+pub(crate) fn new_thread(entry: u64, arg: u64) -> Thread
+    ensures { result ≡ new_thread entry arg }
 {
-    let mut regs = Regs::new();
-    regs.set(SP, world.stack_end(tile) - 64);
-    regs.set(A0, arg);
     Thread {
-        regs,
+        regs: Regs::new(),
         pc: entry,
-        tile: Some(tile),
+        tile: None,
         reservation: None,
-        status: Status::Ready,
+        joiner: None,
+        status: Status::New { entry, arg },
     }
+}
+
+/// A thread begins on a tile at an entry, with this argument.
+pub(crate) fn start(world: &World, tile: NodeId, entry: u64, arg: u64, thread: &mut Thread)
+    requires { tile < world.now.config.tiles }
+    ensures { thread.new ≡ started world.now tile entry arg thread.old }
+{
+    thread.regs = start_registers(world, tile, arg);
+    thread.pc = entry;
+    thread.tile = Some(tile);
+    thread.reservation = None;
+    thread.status = Status::Ready;
+}
+
+/// The next step of the hart on which a thread runs.
+pub(crate) fn step_of(world: &World, number: u32, thread: &Thread) -> Step
+    ensures step { result ≡ step_of world.now number thread.now }
+    ensures register { HasRegister result }
+{
+    next_step(world, &thread.regs, thread.pc, thread.reservation, number)
 }
 
 /// A ready thread executes its next instruction, on this memory. The answer has the bytes that it wrote, if any.
@@ -56,101 +66,61 @@ pub(crate) fn execute(
         Status::Ready => {}
         _ => return Err(ActFault::NotLegal),
     }
-    let meaning = next_meaning(world, thread);
-    make(alloc, world, number, memory, thread, meaning)
+    let step = step_of(world, number, thread);
+    make(alloc, memory, thread, step)
 }
 
-/// A ready thread's next instruction has this meaning, and is made on this memory. The answer has the bytes that it
-/// wrote, if any.
+/// A ready thread makes its next step on this memory. The answer has the bytes that it wrote, if any.
 pub(crate) fn make(
     alloc: Global,
-    world: &World,
-    number: u32,
     memory: &mut Memory,
     thread: &mut Thread,
-    meaning: Meaning,
+    step: Step,
 ) -> Result<Option<Span>, ActFault>
-    requires register { HasRegister meaning }
-    requires access { HasAccess meaning }
+    requires { HasRegister step }
     ensures { Executes result memory.old memory.new thread.old thread.new
-        (executed_as world.now memory.old number thread.old meaning) }
+        (executed_by_step memory.old thread.old step) }
 {
-    match meaning {
-        Meaning::Next { rd, value, pc } => {
+    match step {
+        Step::Next { rd, value, pc, .. } => {
             thread.regs.set(rd, value);
             thread.pc = pc;
         }
-        Meaning::Access { access } => return make_access(world, memory, thread, &access),
-        Meaning::Call => call(alloc, world, number, thread)?,
-        Meaning::Trap { cause } => trap(thread, cause),
+        Step::Access { access } => return Ok(make_access(memory, thread, &access)),
+        Step::ScFails { .. } => return Err(ActFault::NotLegal),
+        Step::Answer { value } => pass_call(thread, value),
+        Step::Ask { call } => thread.status = Status::Asked { call },
+        Step::Write { addr, len } => {
+            let bytes = Bytes::new(alloc, len as usize)?;
+            thread.status = Status::Writing { addr, len, bytes };
+        }
+        Step::Exit { code } => {
+            thread.tile = None;
+            thread.status = Status::Left { code };
+        }
+        Step::Trap { cause } => {
+            let pc = thread.pc;
+            thread.status = Status::Trapped { cause, pc };
+        }
     }
     Ok(None)
 }
 
-/// An access to memory: the rights of its bytes are tested, and then it works on the number that they hold.
-fn make_access(
-    world: &World,
-    memory: &mut Memory,
-    thread: &mut Thread,
-    access: &Access,
-) -> Result<Option<Span>, ActFault>
-    ensures { Executes result memory.old memory.new thread.old thread.new
-        (accessed world.now memory.old thread.old access.now) }
+/// An access works on the number that its bytes hold. The answer has the bytes that it wrote, if any.
+fn make_access(memory: &mut Memory, thread: &mut Thread, access: &Access) -> Option<Span>
+    ensures { accessed memory.old thread.old access.now ≡ record { memory = memory.new; written = result; thread = thread.new } }
 {
-    if !is_granted(world, access) {
-        trap(thread, access_fault(access.op()));
-        return Ok(None);
-    }
-    if is_conditional(access.op()) && !matches(thread.reservation, access) {
-        return Err(ActFault::NotLegal);
-    }
-    let address = access.addr();
+    let addr = access.addr();
     let size = access.size();
-    let done = finish(access, memory.load(address, size));
+    let done = finish(access, memory.load(addr, size));
     let mut written = None;
     if let Some(value) = done.write {
-        memory.store(address, size, value);
+        memory.store(addr, size, value);
         written = Some(span_of(access));
     }
     thread.reservation = reserved(access, thread.reservation);
     pass(thread, access.rd(), done.value);
-    Ok(written)
-}
-
-/// Whether each byte of an access has the right that it needs.
-fn is_granted(world: &World, access: &Access) -> bool
-    ensures { result ≡ is_granted world.now access.now }
-{
-    let right = right_of(access.op());
-    world.may(access.addr(), u64::from(access.size()), right)
-}
-
-/// The right that an access needs of its bytes.
-fn right_of(op: AccessOp) -> Right
-    ensures { result ≡ right_of op }
-{
-    match op {
-        AccessOp::Load | AccessOp::Lr => Right::Read,
-        AccessOp::Store | AccessOp::Sc => Right::Write,
-        AccessOp::Amo { .. } => Right::ReadWrite,
-    }
-}
-
-/// The trap of an access whose bytes lack the right.
-fn access_fault(op: AccessOp) -> Cause
-    ensures { result ≡ access_fault op }
-{
-    match op {
-        AccessOp::Load | AccessOp::Lr => Cause::LoadAccess,
-        AccessOp::Store | AccessOp::Sc | AccessOp::Amo { .. } => Cause::StoreAccess,
-    }
-}
-
-/// Whether an access is a store-conditional.
-fn is_conditional(op: AccessOp) -> bool
-    ensures { result ≡ is_conditional op }
-{
-    matches!(op, AccessOp::Sc)
+    written
 }
 
 /// `rd`, below 32, gets a value, and the thread goes on behind the instruction.
@@ -162,51 +132,40 @@ fn pass(thread: &mut Thread, rd: u8, value: u64)
     thread.pc = thread.pc.wrapping_add(4);
 }
 
-/// The thread stays at the instruction that trapped.
-fn trap(thread: &mut Thread, cause: Cause)
-    ensures { thread.new ≡ trapped thread.old cause }
+/// `a0` gets the answer of a call, and the thread goes on behind it.
+fn pass_call(thread: &mut Thread, value: u64)
+    ensures { thread.new ≡ past_call thread.old value }
 {
-    let pc = thread.pc;
-    thread.status = Status::Trapped { cause, pc };
+    thread.regs.set(A0, value);
+    thread.pc = thread.pc.wrapping_add(4);
+    thread.status = Status::Ready;
 }
 
-/// The store-conditional that a ready thread is at, past the tests of its alignment and its bytes' rights.
-pub(crate) fn conditional(world: &World, thread: &Thread) -> Option<Access>
-    ensures value { result ≡ conditional world.now thread.now }
-    ensures known { IfSome result IsAccess }
+/// The register that a store-conditional answers in, where the step is one.
+pub(crate) fn conditional_rd(step: &Step) -> Option<u8>
+    requires { HasRegister step.now }
+    ensures value { result ≡ conditional_rd step.now }
+    ensures known { IfSome result (λ rd. rd < 32) }
 {
-    match thread.status {
-        Status::Ready => conditional_of(world, &next_meaning(world, thread)),
+    match step {
+        Step::ScFails { rd } => Some(*rd),
+        Step::Access { access } if matches!(access.op(), AccessOp::Sc) => Some(access.rd()),
         _ => None,
     }
 }
 
-/// The store-conditional that a meaning asks for, where its bytes may be written.
-pub(crate) fn conditional_of(world: &World, meaning: &Meaning) -> Option<Access>
-    requires { HasAccess meaning.now }
-    ensures value { result ≡ conditional_of world.now meaning.now }
-    ensures known { IfSome result IsAccess }
-{
-    match meaning {
-        Meaning::Access { access } => {
-            if is_conditional(access.op()) && is_granted(world, access) {
-                Some(*access)
-            } else {
-                None
-            }
-        }
-        Meaning::Next { .. } | Meaning::Call | Meaning::Trap { .. } => None,
-    }
-}
-
 /// A store-conditional fails: `rd` gets 1, and the reservation ends.
-pub(crate) fn fail(world: &World, thread: &mut Thread) -> Result<(), ActFault>
-    ensures { Acts result thread.old thread.new (failed world.now thread.old) }
+pub(crate) fn fail(world: &World, number: u32, thread: &mut Thread) -> Result<(), ActFault>
+    ensures { Acts result thread.old thread.new (failed world.now number thread.old) }
 {
-    match conditional(world, thread) {
-        Some(access) => {
+    match thread.status {
+        Status::Ready => {}
+        _ => return Err(ActFault::NotLegal),
+    }
+    match conditional_rd(&step_of(world, number, thread)) {
+        Some(rd) => {
+            pass(thread, rd, 1);
             thread.reservation = None;
-            pass(thread, access.rd(), 1);
             Ok(())
         }
         None => Err(ActFault::NotLegal),
@@ -216,11 +175,11 @@ pub(crate) fn fail(world: &World, thread: &mut Thread) -> Result<(), ActFault>
 /// A new thread begins on a vacant tile.
 pub(crate) fn begin(world: &World, tile: NodeId, thread: &mut Thread) -> Result<(), ActFault>
     requires { tile < world.now.config.tiles }
-    ensures { Acts result thread.old thread.new (begun_by world.now tile true thread.old.status) }
+    ensures { Acts result thread.old thread.new (begun_by world.now tile thread.old true thread.old.status) }
 {
     match thread.status {
         Status::New { entry, arg } => {
-            *thread = start(world, tile, entry, arg);
+            start(world, tile, entry, arg, thread);
             Ok(())
         }
         _ => Err(ActFault::NotLegal),
@@ -244,39 +203,17 @@ fn stands_on(tile: NodeId, thread: &Thread) -> bool
     }
 }
 
-/// What the next instruction means: a trap where it can't be fetched or has no row, else its effect.
-pub(crate) fn next_meaning(world: &World, thread: &Thread) -> Meaning
-    ensures meaning { result ≡ next_meaning world.now thread.now }
-    ensures register { HasRegister result }
-{
-    let Some(word) = world.fetch(thread.pc) else {
-        return Meaning::Trap {
-            cause: Cause::InstrAccess,
-        };
-    };
-    match decode(word) {
-        Some(instr) => effect(&instr, &thread.regs, thread.pc),
-        None => Meaning::Trap {
-            cause: Cause::Illegal,
-        },
-    }
-}
-
 /// A write call with bytes still to read reads the next one.
 pub(crate) fn load(memory: &Memory, thread: &mut Thread) -> Result<(), ActFault>
     ensures { Acts result thread.old thread.new (loaded memory.now thread.old) }
 {
     match &mut thread.status {
-        Status::Writing {
-            address,
-            length,
-            bytes,
-        } => {
+        Status::Writing { addr, len, bytes } => {
             let read = bytes.len() as u64;
-            if read >= *length {
+            if read >= *len {
                 return Err(ActFault::NotLegal);
             }
-            bytes.push(memory.byte(address.wrapping_add(read)))?;
+            bytes.push(memory.byte(addr.wrapping_add(read)))?;
             Ok(())
         }
         _ => Err(ActFault::NotLegal),
@@ -289,7 +226,7 @@ pub(crate) fn take_answer(thread: &mut Thread) -> Result<(), ActFault>
 {
     match thread.status {
         Status::Answered { value } => {
-            answer(thread, value);
+            pass_call(thread, value);
             Ok(())
         }
         _ => Err(ActFault::NotLegal),

@@ -1,7 +1,7 @@
 ghost use Rattle.std.specs.Prelude.{◌≡◌, ◌≤◌, ◌<◌, ◌+◌, ◌-◌, ◌*◌, ◌^◌, if◌then◌else◌, ◌++◌, OnOk, IfOk, IfSome, IsTrue, All, length, map};
 ghost use Rattle.elf_image.specs.Image.{IsSegment, IsProgram};
-ghost use Rattle.flat_machine.specs.Memory.{byte_at, with_byte, start_memory};
-ghost use Rattle.flat_machine.specs.Regions.{has_address, byte_of, with_byte_in, segment_region, stack_region, start_regions};
+ghost use Rattle.flat_machine.specs.Memory.{byte_at, byte_around, with_byte, start_memory};
+ghost use Rattle.flat_machine.specs.Inner.{has_address, byte_of, with_byte_in, segment_region, stack_region, start_regions};
 ghost use Rattle.std.specs.List.{range_with_len};
 ghost use Rattle.rv_exec.specs.Access.{is_size};
 ghost use Rattle.sim_base.specs.LittleEndian.{loaded, with_bytes, stored};
@@ -55,7 +55,7 @@ impl Model for Memory {
 
     ghost coded = { map.code coded_ℕ coded_ℕ };
 
-    ghost use Rattle.flat_machine.specs.Regions.{memory_of};
+    ghost use Rattle.flat_machine.specs.Inner.{memory_of};
 
     ghost view = { λ m. memory_of m.regions.items };
 }
@@ -126,6 +126,18 @@ impl Memory {
             self.byte(address + 5),
             self.byte(address + 6),
             self.byte(address + 7),
+        ])
+    }
+
+    /// The number in the four bytes from an address on, where addresses go on at 0 past 2^64 - 1.
+    pub fn word_around(&self, address: u64) -> u32
+        ensures { result ≡ loaded (byte_around self.now) address 4 }
+    {
+        LittleEndian::read_u32(&[
+            self.byte(address),
+            self.byte(address.wrapping_add(1)),
+            self.byte(address.wrapping_add(2)),
+            self.byte(address.wrapping_add(3)),
         ])
     }
 

@@ -1,48 +1,17 @@
 ghost use Rattle.std.specs.Prelude.{◌≡◌, ◌<◌, map, vec_len};
-ghost use Rattle.flat_machine.specs.Reservation.{span_of, share_byte, matches, reserved, unless_written, without_reservation, others_end};
+ghost use Rattle.flat_machine.specs.Reservation.{share_byte, unless_written, without_reservation, others_end};
 
-use crate::threads::{Span, Thread};
-use rv_exec::{Access, AccessOp};
-
-/// The bytes of an access.
-pub(crate) fn span_of(access: &Access) -> Span
-    ensures { result ≡ span_of access.now }
-{
-    Span {
-        address: access.addr(),
-        size: access.size(),
-    }
-}
+use crate::threads::Thread;
+use rv_hart::Span;
 
 /// Whether two ranges share a byte.
 fn share_byte(a: &Span, b: &Span) -> bool
     ensures { result ≡ share_byte a.now b.now }
 {
-    let first = a.address.max(b.address);
-    let a_end = a.address as u128 + a.size as u128;
-    let b_end = b.address as u128 + b.size as u128;
+    let first = a.addr.max(b.addr);
+    let a_end = a.addr as u128 + a.size as u128;
+    let b_end = b.addr as u128 + b.size as u128;
     (first as u128) < a_end.min(b_end)
-}
-
-/// Whether a reservation stands that has the address and the size of an access.
-pub(crate) fn matches(reservation: Option<Span>, access: &Access) -> bool
-    ensures { result ≡ matches reservation access.now }
-{
-    match reservation {
-        None => false,
-        Some(span) => span.address == access.addr() && span.size == access.size(),
-    }
-}
-
-/// A thread's reservation after an access of its own.
-pub(crate) fn reserved(access: &Access, old: Option<Span>) -> Option<Span>
-    ensures { result ≡ reserved access.now.op access.now old }
-{
-    match access.op() {
-        AccessOp::Lr => Some(span_of(access)),
-        AccessOp::Sc => None,
-        AccessOp::Load | AccessOp::Store | AccessOp::Amo { .. } => old,
-    }
 }
 
 /// What is left of a reservation when bytes were written by another thread.

@@ -1,5 +1,5 @@
 ghost use Rattle.std.specs.Prelude.{◌≡◌, IfOk};
-ghost use Rattle.flat_machine.specs.Run.{after, MadeIsLegal, LegalIsMade, TrapHasCause};
+ghost use Rattle.flat_machine.specs.Run.{after, MadeIsLegal, LegalIsMade, TrapHasCause, MappedStays};
 
 use crate::machine::Flat;
 use elf_image::World;
@@ -18,8 +18,13 @@ pub fn trap_has_cause()
     ensures { TrapHasCause }
 {}
 
-/// Runs a program of one thread: its one legal action is made again and again, until there is none,
-/// or it comes to a store-conditional, or `most` actions were made.
+/// A law: no action changes which addresses are mapped.
+pub fn mapped_stays()
+    ensures { MappedStays }
+{}
+
+/// Runs a program as long as it has one thread: its only legal action is made again and again, until there is none, or
+/// another is legal too, or `most` actions were made.
 pub fn run(alloc: Global, world: &World, most: u64) -> Result<Flat, NoMemory>
     ensures { IfOk result (λ flat. flat ≡ after world.now most) }
 {

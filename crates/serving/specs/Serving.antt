@@ -169,16 +169,19 @@ are_all_parked c = list_all (is_parked c) (live_from 0 c.fates)
 abbrev pub is_deadlocked : Bool → ControlData → Bool
 is_deadlocked none_waits c = not (is_some c.ended) && (none_waits && (not (live_count c.fates == 0) && are_all_parked c))
 
-abbrev pub closed : Bool → ControlData → ControlData
-closed none_waits c = if is_deadlocked none_waits c then record c { ended = Some Deadlock } else c
+-- the end that the closing leaves: one that serving itself made stays
+abbrev pub closed_end : Bool → ControlData → Option End
+closed_end none_waits c = if is_deadlocked none_waits c then Some Deadlock else c.ended
 
 -- a thread that is answered can go on itself; else the closing follows
-abbrev pub closed_after : Own → Bool → ControlData → ControlData
-closed_after (answer value) none_waits c = c
-closed_after _ none_waits c = closed none_waits c
+abbrev pub end_after : Own → Bool → ControlData → Option End
+end_after (answer value) none_waits c = c.ended
+end_after _ none_waits c = closed_end none_waits c
+
+-- what serving made, with the end that follows
+abbrev pub with_end : Bool → Served → Served
+with_end none_waits made = record made { control = record made.control { ended = end_after made.own none_waits made.control } }
 
 -- a request is served: `none_waits` says that no other request waits to be
 abbrev pub serve : Setup → ControlData → ℕ → Request → ℕ → Bool → Served
-serve w c caller request word none_waits =
-    let made : Served = request_served w c caller request word in
-    record made { control = closed_after made.own none_waits made.control }
+serve w c caller request word none_waits = with_end none_waits (request_served w c caller request word)

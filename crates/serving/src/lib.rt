@@ -4,6 +4,8 @@
 
 mod answers;
 mod control_data;
+mod joins;
 
 pub use answers::{MOST_THREADS, break_after, write_output};
 pub use control_data::{Fate, Join, Request, Waiter};
+pub use joins::{join_by, joiner_by};

@@ -1,5 +1,5 @@
 -- How each change of a cache shows at each line, and that a victim is another line of the cache.
-use Rattle.std.proofs.Common.{◌≡◌, ℕ, zero, suc, ◌%◌, ◌<◌, ◌≤◌, arith, replicate, true, false, List, [], ◌∷◌, length, get_or, Some, None, refl, sym, ap, ◌∙◌, inl, inr}
+use Rattle.std.proofs.Common.{◌≡◌, ℕ, zero, suc, ◌%◌, ◌<◌, ◌≤◌, arith, replicate, true, false, List, [], ◌∷◌, length, get_or, Some, None, refl, sym, ap, ◌∙◌, inl, inr, Bool, cond}
 use Rattle.std.proofs.lemmas.Bool.{cases_Bool, cases_eq, eqb-true, eq-eqb, lt-ltb, cond-true, cond-false, false_from_ne_true}
 use Rattle.std.proofs.lemmas.Option.{none-some, same_Some, some_pair_parts}
 use Rattle.std.proofs.lemmas.List.{length-set, get_or-set_same, get_or-set_other}
@@ -10,7 +10,7 @@ use Rattle.tile_cache.specs.declared.ways.Hold.{Hold}
 use Rattle.tile_cache.specs.declared.ways.Hold.TheVariants.{S, M}
 use Rattle.tile_cache.specs.declared.ways.Way.{Way}
 use Rattle.tile_cache.specs.Cache.{Sets, empty_cache, set_number, set_of, with_set, has_line, way_of, others, with_line_changed, with_change, with_front, without_line, touched, line_with, way_written, way_downgraded, last_way, line_and_hold, victim_of, LeavesRoom, IsCache}
-use Rattle.tile_cache.specs.Copy.{Copy, absent, shared, held_as, copy_in, copy_of, with_data, as_shared, FrontShows, DropShows, TouchHides, WriteShows, DowngradeShows, VictimIsHeld, EmptyShows, HeldShows, AbsentShows}
+use Rattle.tile_cache.specs.Copy.{Copy, absent, shared, held_as, copy_in, copy_of, with_data, as_shared, FrontShows, DropShows, TouchHides, WriteShows, DowngradeShows, VictimIsHeld, EmptyShows, HeldShows, AbsentShows, VictimIsAnother}
 use Rattle.tile_cache.proofs.SetLemmas.{KeepsLine, All-last, find-last, other_line, find-absent, find-changed, find-changed_other, find-others, found_line, length-others_found, others-lacks}
 use Rattle.tile_cache.proofs.CacheLemmas.{set_number-within, victim_among}
 
@@ -137,17 +137,31 @@ victim_way c line victim hold None e h =
           (parts.0, refl, parts.1, parts.2, parts.3)
     ]
 
+-- the last way of a set that doesn't have a line is of another
+none_first : (b : Bool) (way : Way) (rest : Option Way) → cond b (Some way) rest ≡ None → (b ≡ false) × (rest ≡ None)
+none_first true way rest e = cc
+none_first false way rest e = (refl, e)
+
+line_is_another : (line : ℕ) (ways : List Way) (last : Way) → find (has_line line) ways ≡ None → last_way ways ≡ Some last → has_line line last ≡ false
+line_is_another line [] last none e = cc
+line_is_another line (way ∷ []) last none e =
+    let same : way ≡ last = same_Some way last e in ap (has_line line) (sym same) ∙ (none_first (has_line line way) way None none).0
+line_is_another line (way ∷ next ∷ ways) last none e =
+    let rest = none_first (has_line line way) way (find (has_line line) (next ∷ ways)) none in line_is_another line (next ∷ ways) last rest.1 e
+
+pub victim_is_another : VictimIsAnother
+victim_is_another c line victim hold e =
+    let found = victim_way c line victim hold _ refl e in
+    ap (λ n. n == line) (sym found.3) ∙ line_is_another line (set_of c line) found.0 found.1 found.2
+
 pub victim_is_held : VictimIsHeld
 victim_is_held c line victim hold known e =
     let found = victim_way c line victim hold _ refl e in
     let way : Way = found.0 in
     let ways : List Way = set_of c line in
     let own : set_number c way.line ≡ set_number c line = All-last (λ w. set_number c w.line ≡ set_number c line) ways way (known.own (set_number c line)) found.2 in
-    let here : way_of c way.line ≡ Some way = ap (λ n. find (has_line way.line) (get_or c.sets n [])) own ∙ find-last ways way (known.once (set_number c line)) found.2 in (
-      way.content,
-      ap (copy_of c) (sym found.3) ∙ ap copy_in here ∙ ap (λ h. held_as h way.content) found.4,
-      false_from_ne_true _ (λ same. let at : way.line ≡ line = found.3 ∙ eqb-true victim line same in none-some way (sym found.1 ∙ ap (way_of c) (sym at) ∙ here)),
-    )
+    let here : way_of c way.line ≡ Some way = ap (λ n. find (has_line way.line) (get_or c.sets n [])) own ∙ find-last ways way (known.once (set_number c line)) found.2 in
+    (way.content, ap (copy_of c) (sym found.3) ∙ ap copy_in here ∙ ap (λ h. held_as h way.content) found.4)
 
 roomy : (c : Sets) (k : ℕ) (found : Option Way) → way_of c k ≡ found → length (set_of c k) < c.ways → victim_of c k ≡ None
 roomy c k None e less = let test : nat_lt (length (set_of c k)) c.ways ≡ true = lt-ltb _ _ less in rw (e, test) refl
@@ -174,7 +188,7 @@ victim_leaves c line known k hold e =
 
 -- a cache without lines
 
-empty_at : (n k : ℕ) → get_or (replicate {A = List Way} n []) k [] ≡ []
+pub empty_at : (n k : ℕ) → get_or (replicate {A = List Way} n []) k [] ≡ []
 empty_at zero k = refl
 empty_at (suc n) zero = refl
 empty_at (suc n) (suc k) = empty_at n k

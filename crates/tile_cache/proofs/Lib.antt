@@ -1,4 +1,5 @@
 pub mod CacheLemmas
+pub mod ChangeLemmas
 pub mod CopyLemmas
 pub mod KeptLemmas
 pub mod SetLemmas

@@ -75,7 +75,11 @@ WriteShows = (c : Sets) (line offset size value k : ℕ) → 0 < length c.sets
 abbrev pub DowngradeShows : Type 0
 DowngradeShows = (c : Sets) (line k : ℕ) → 0 < length c.sets → copy_of (downgraded c line) k ≡ (if k == line then as_shared (copy_of c k) else copy_of c k)
 
--- the victim is another line of the cache, held as it says
+-- a victim is another line
+abbrev pub VictimIsAnother : Type 0
+VictimIsAnother = (c : Sets) (line victim : ℕ) (hold : Hold) → victim_of c line ≡ Some (victim, hold) → (victim == line) ≡ false
+
+-- and the cache has it, held as it says
 abbrev pub VictimIsHeld : Type 0
 VictimIsHeld = (c : Sets) (line victim : ℕ) (hold : Hold) → IsCache c → victim_of c line ≡ Some (victim, hold)
-    → (content : LineData) × (copy_of c victim ≡ held_as hold content) × ((victim == line) ≡ false)
+    → (content : LineData) × (copy_of c victim ≡ held_as hold content)

@@ -1,3 +1,4 @@
 pub mod Cache
 pub mod Copy
+pub mod Change
 pub mod Kept

@@ -1,7 +1,7 @@
 -- One stack more.
 use Rattle.std.proofs.Common.{◌≡◌, ◌+◌, ◌++◌, ◌∷◌, [], ap, sym, ◌∙◌, append_assoc, map, add-one, arith}
 use Rattle.std.specs.List.{range_with_len}
-use Rattle.flat_machine.specs.Regions.{stack_region}
+use Rattle.flat_machine.specs.Inner.{stack_region}
 use Rattle.sim_base.proofs.Lists.{map-range-more}
 use Rattle.flat_machine.proofs.regions.add_stacks.Goals as goal
 

@@ -1,5 +1,5 @@
 use Rattle.std.proofs.Common.{◌≡◌, drop}
-use Rattle.flat_machine.specs.Regions.{byte_of}
+use Rattle.flat_machine.specs.Inner.{byte_of}
 use Rattle.flat_machine.proofs.regions.byte_in.Given as goal
 
 -- the regions passed don't have the address

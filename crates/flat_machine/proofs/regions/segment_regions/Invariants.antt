@@ -1,5 +1,5 @@
 use Rattle.std.proofs.Common.{◌≡◌, map, take}
-use Rattle.flat_machine.specs.Regions.{segment_region}
+use Rattle.flat_machine.specs.Inner.{segment_region}
 use Rattle.flat_machine.proofs.regions.segment_regions.Given as goal
 
 -- the regions so far are those of the segments so far

@@ -1,7 +1,7 @@
 -- The first region with the address is written, and those before it are passed.
 use Rattle.std.proofs.Common.{◌∙◌, ap, arith}
 use Rattle.std.proofs.lemmas.List.{set-get_or}
-use Rattle.flat_machine.specs.Regions.{with_byte_in}
+use Rattle.flat_machine.specs.Inner.{with_byte_in}
 use Rattle.flat_machine.proofs.WriteLemmas.{written_back, passed_back, passed_more}
 use Rattle.flat_machine.proofs.regions.set_in.Goals as goal
 

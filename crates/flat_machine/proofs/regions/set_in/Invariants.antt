@@ -1,5 +1,5 @@
 use Rattle.std.proofs.Common.{◌≡◌, ◌++◌, take, drop}
-use Rattle.flat_machine.specs.Regions.{with_byte_in}
+use Rattle.flat_machine.specs.Inner.{with_byte_in}
 use Rattle.flat_machine.proofs.regions.set_in.Given as goal
 
 -- nothing is written yet, and the regions passed don't have the address

@@ -1,5 +1,5 @@
 -- Each law is a lemma.
-use Rattle.tile_cache.proofs.CopyLemmas.{downgrade_shows, drop_shows, empty_shows, front_shows, touch_hides, victim_is_held, write_shows}
+use Rattle.tile_cache.proofs.CopyLemmas.{downgrade_shows, drop_shows, empty_shows, front_shows, touch_hides, write_shows}
 use Rattle.tile_cache.proofs.laws.changes_show.Goals as goal
 
 pub returns-clause-empty : goal.returns-clause-empty
@@ -19,6 +19,3 @@ returns-clause-written c = write_shows
 
 pub returns-clause-downgraded : goal.returns-clause-downgraded
 returns-clause-downgraded c = downgrade_shows
-
-pub returns-clause-victim : goal.returns-clause-victim
-returns-clause-victim c = victim_is_held

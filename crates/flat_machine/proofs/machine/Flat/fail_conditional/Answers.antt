@@ -1,5 +1,5 @@
 -- The thread's move is the machine's.
-use Rattle.std.proofs.Common.{◌≡◌, ◌∙◌}
+use Rattle.std.proofs.Common.{◌≡◌, refl}
 use Rattle.std.specs.Prelude.{Some, slice_get}
 use Rattle.std.proofs.lemmas.Option.{slice_get_read}
 use Rattle.flat_machine.specs.Action.{failed}
@@ -9,5 +9,5 @@ use Rattle.flat_machine.proofs.machine.Flat.fail_conditional.Goals as goal
 pub returns : goal.returns
 returns c =
     let here : slice_get c.self.inside.threads.items c.args.number ≡ Some c.index_mut.result.now =
-    slice_get_read _ c.len.result c.args.number _ (c.len.ensures ∙ c.self.inside.threads.ok.0) c.if-index-len.false c.index_mut.ensures.value in
-    rw (← c.self.view_is) (moved _ c.args.number (failed c.args.world.now) _ c.fail.new.thread c.fail.result here c.fail.ensures)
+    slice_get_read c.self.inside.threads.items _ c.args.number _ refl (rw (← c.self.view_is) at c.requires) c.index_mut.ensures.value in
+    rw (← c.self.view_is) (moved _ c.args.number (failed c.args.world.now c.args.number) _ c.fail.new.thread c.fail.result here c.fail.ensures)

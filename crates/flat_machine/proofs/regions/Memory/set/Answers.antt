@@ -1,7 +1,7 @@
 -- The written regions make the written memory.
 use Rattle.std.proofs.Common.{ap, ◌∙◌}
 use Rattle.flat_machine.specs.Memory.{with_byte}
-use Rattle.flat_machine.specs.Regions.{memory_of}
+use Rattle.flat_machine.specs.Inner.{memory_of}
 use Rattle.flat_machine.proofs.WriteLemmas.{written-memory}
 use Rattle.flat_machine.proofs.regions.Memory.set.Goals as goal
 

@@ -1,6 +1,6 @@
 -- The start regions make the start memory.
 use Rattle.std.proofs.Common.{ap, ◌∙◌}
-use Rattle.flat_machine.specs.Regions.{memory_of}
+use Rattle.flat_machine.specs.Inner.{memory_of}
 use Rattle.flat_machine.proofs.StartLemmas.{start_memory_of}
 use Rattle.flat_machine.proofs.regions.Memory.start.Goals as goal
 

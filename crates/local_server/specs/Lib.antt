@@ -1,0 +1,2 @@
+pub mod Local
+pub use Rattle.wire_msg.specs.Message
