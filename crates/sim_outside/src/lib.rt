@@ -8,8 +8,6 @@ mod memory_sink;
 mod printing;
 mod reading;
 mod system;
-#[cfg(test)]
-mod tests;
 
 pub use memory_files::MemFiles;
 pub use memory_sink::MemSink;

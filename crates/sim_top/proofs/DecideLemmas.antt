@@ -1,10 +1,13 @@
 -- What a file decides is what the input decides.
-use Rattle.std.proofs.Common.{◌≡◌, ℕ, ◌<◌, List, length, true, refl, sym, ap, ◌∙◌, arith}
+use Rattle.std.proofs.Common.{◌≡◌, ℕ, ◌<◌, List, ◌++◌, length, true, refl, sym, ap, ◌∙◌, arith, length-append}
 use Rattle.std.specs.Prelude.{Option, Some, None, Result, Ok, Err, IfOk}
 use Rattle.std.proofs.lemmas.Bool.Decides.{nat_tests}
 use Rattle.sim_base.specs.declared.ends.End.{End}
 use Rattle.sim_base.specs.declared.ends.End.TheVariants.{Exit, Trap, Deadlock, Budget}
-use Rattle.sim_outside.specs.Told.{Tells, Exceeds}
+use Rattle.sim_outside.specs.declared.reading.FileAnswer.{FileAnswer}
+use Rattle.sim_outside.specs.declared.reading.FileAnswer.TheVariants.{TooLong as FileTooLong}
+use Rattle.sim_outside.specs.Files.{ReadAll}
+use Rattle.sim_outside.specs.Told.{Contents, Holds, HoldsFront}
 use Rattle.elf_image.specs.Image.{Program, image_of, first_of, header_refusals, is_too_long}
 use Rattle.elf_image.specs.declared.refusal.ImageFault.{ImageFault}
 use Rattle.elf_image.specs.declared.refusal.ImageFault.TheVariants.{TooLong}
@@ -39,11 +42,17 @@ pub too_long : (file : List ℕ) → 16777216 < length file → image_of file �
 unfolding first_of header_refusals
 too_long file h = let t : is_too_long file ≡ true = grind (arith, nat_tests) in rw t refl
 
+-- what a reading says that answers so
+pub read_too_long : (answer : Result (Unit {0}) FileAnswer) (contents : Contents) (name : List ℕ) (limit : ℕ) (bytes : List ℕ) (before now : List ℕ → ℕ)
+    (e : FileAnswer) → answer ≡ Err e → e ≡ FileTooLong → ReadAll answer contents name limit bytes before now
+    → (limit < length bytes) × HoldsFront contents name bytes × (now ≡ before)
+read_too_long answer contents name limit bytes before now e was is read = rw (was, is) at read
+
 -- a file of which a reading found more than the limit is such a file
-pub long_file : (held : Option (List ℕ)) (bytes : List ℕ) → 16777216 < length bytes → Exceeds held bytes 16777216
-    → (file : List ℕ) × Tells held file × (16777216 < length file)
-long_file None bytes h e = (bytes, tt, h)
-long_file (Some contents) bytes h e = (contents, refl, e.1)
+pub long_file : (contents : Contents) (name front : List ℕ) → 16777216 < length front → HoldsFront contents name front
+    → (file : List ℕ) × Holds contents name file × (16777216 < length file)
+long_file None name front long is = (front, tt, long)
+long_file (Some held) name front long (rest, is) = (front ++ rest, is, omega (arith, length-append front rest))
 
 -- the answer of a call that decides by the file is the answer by the input
 pub decided : (i : Input) (name file : List ℕ) (r : Result Decision NoMemory) → IsImageFile i name file
@@ -52,11 +61,11 @@ decided i name file (Ok d) is h = decides_file i name file is d h
 decided i name file (Err e) is h = tt
 
 -- and so is a refusal of a file that is too long, whatever more is in it than was read
-pub decided_too_long : (i : Input) (name bytes : List ℕ) (r : Result Decision NoMemory) → image_name i.words ≡ Some name
-    → 16777216 < length bytes → Exceeds (i.holds name) bytes 16777216
+pub decided_too_long : (i : Input) (name front : List ℕ) (r : Result Decision NoMemory) → image_name i.words ≡ Some name → i.faults_now ≡ i.faults_before
+    → 16777216 < length front → HoldsFront i.holds name front
     → IfOk r (λ d. d ≡ refused (BadImage TooLong)) → IfOk r (λ d. Decides i d.outcome d.text)
-decided_too_long i name bytes (Err e) named long exceeds h = tt
-decided_too_long i name bytes (Ok d) named long exceeds h =
-    let file = long_file (i.holds name) bytes long exceeds in
-    let is : IsImageFile i name file.0 = record { named = named; told = file.1 } in
-    decides_file i name file.0 is d (h ∙ ap decided_by_image (sym (too_long file.0 file.2)))
+decided_too_long i name front (Err e) named no_fault long is h = tt
+decided_too_long i name front (Ok d) named no_fault long is h =
+    let file = long_file i.holds name front long is in
+    let held : IsImageFile i name file.0 = record { named = named; told = file.1; no_fault = no_fault } in
+    decides_file i name file.0 held d (h ∙ ap decided_by_image (sym (too_long file.0 file.2)))

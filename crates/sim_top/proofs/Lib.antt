@@ -1,2 +1,3 @@
 pub mod TookLemmas
 pub mod DecideLemmas
+pub mod HexLemmas

@@ -1,6 +1,6 @@
 -- What is printed. This simulator's own.
-use Rattle.std.specs.Prelude.{ℕ, ◌+◌, ◌-◌, ◌*◌, ◌/◌, ◌%◌, ◌^◌, ◌==◌, ◌&&◌, nat_lt, map, Bool, not, List, [], ◌∷◌, ◌++◌, length, slice_index, if◌then◌else◌, codes, decimal}
-use Rattle.std.specs.List.{range_with_len}
+use Rattle.std.specs.Prelude.{ℕ, ◌-◌, ◌==◌, ◌&&◌, Bool, false, not, List, [], ◌∷◌, ◌++◌, length, replicate, slice_index, if◌then◌else◌, codes, decimal}
+use Rattle.std.specs.Fmt.{digits}
 use Rattle.sim_base.specs.declared.ends.Cause.{Cause}
 use Rattle.sim_base.specs.declared.ends.Cause.TheVariants.{InstrMisaligned, InstrAccess, Illegal, Breakpoint, LoadMisaligned, LoadAccess, StoreMisaligned, StoreAccess}
 use Rattle.sim_base.specs.declared.ends.End.{End}
@@ -22,13 +22,9 @@ ends_amid_line output = not (length output == 0) && not (slice_index output (len
 abbrev pub whole_lines : List ℕ → List ℕ
 whole_lines output = if ends_amid_line output then line output else output
 
--- a digit of a number to the base 16: 0 to 9, and a to f
-abbrev pub hex_digit : ℕ → ℕ
-hex_digit n = if nat_lt n 10 then 48 + n else 87 + n
-
--- the 16 digits of a number below 2 ^ 64 to the base 16, the highest first: each stands for 4 bits
+-- the digits of a number to the base 16, with zeros in front of them where they are fewer than 16
 unfoldable pub hex_digits : ℕ → List ℕ
-hex_digits n = map (λ place. hex_digit (n / 2 ^ (60 - 4 * place) % 16)) (range_with_len 0 16)
+hex_digits n = replicate (16 - length (digits 16 false n)) 48 ++ digits 16 false n
 
 -- the name of a trap's cause
 abbrev pub cause_name : Cause → List ℕ

@@ -1,4 +1,4 @@
-ghost use Rattle.std.specs.Prelude.{◌≡◌, IfOk, ℕ, List};
+ghost use Rattle.std.specs.Prelude.{◌≡◌, IfOk};
 ghost use Rattle.sim_top.specs.Answer.{Decides, decided_by_file, decided_by_image, decided_by_end, one_tile, refused};
 ghost use Rattle.sim_base.specs.Settings.{IsChecked};
 
@@ -27,13 +27,14 @@ pub(crate) fn decide<F: Files>(
       faults_now = F.read_faults files.new;
       holds = F.holds files.old;
     }) d.outcome d.text) }
-    ensures kept { (n : List ℕ) → F.holds files.new n ≡ F.holds files.old n }
+    ensures kept { F.holds files.new ≡ F.holds files.old }
 {
     let Some(name) = image_name(words) else {
         return refuse(alloc, Outcome::Usage);
     };
     let mut bytes = Vec::new(alloc);
-    match files.read_all(name.as_str(), FILE_LIMIT, &mut bytes) {
+    let answer = files.read_all(name.as_str(), FILE_LIMIT, &mut bytes);
+    match answer {
         Ok(()) => decide_file(alloc, bytes.as_slice()),
         Err(FileAnswer::TooLong) => refuse(
             alloc,

@@ -6,11 +6,9 @@ mod decision;
 mod outcomes;
 mod putting;
 mod report;
-#[cfg(test)]
-mod tests;
 mod top;
 mod words;
 
 pub use outcomes::{Decision, Finish, Outcome};
 pub use report::fault_line;
-pub use top::execute_alone;
+pub use top::{absent_is_read_fault, execute_alone};

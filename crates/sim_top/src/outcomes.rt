@@ -12,7 +12,8 @@ pub enum Outcome {
     Usage,
     /// The image is refused.
     BadImage { fault: ImageFault },
-    /// The program made 1,000,000 actions without an end, or came to a store-conditional, which isn't reported yet.
+    /// The program made 1,000,000 actions without an end, or came to a state in which the machine hasn't exactly one
+    /// legal action of thread 0 (a store-conditional, a second thread). Neither is reported yet.
     NotBuilt,
     /// The image couldn't be read.
     ReadFault,

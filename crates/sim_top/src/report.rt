@@ -1,5 +1,5 @@
-ghost use Rattle.std.specs.Prelude.{◌≡◌, ◌<◌, ◌++◌, IfOk, OnOk};
-ghost use Rattle.sim_top.specs.Text.{line, ends_amid_line, run_text, end_text, trap_text, hex_digit, hex_digits, cause_name, fault_text, fault_name};
+ghost use Rattle.std.specs.Prelude.{◌≡◌, ◌++◌, IfOk, codes, string_bytes};
+ghost use Rattle.sim_top.specs.Text.{line, ends_amid_line, run_text, end_text, trap_text, cause_name, fault_text, fault_name};
 
 use crate::outcomes::Outcome;
 use elf_image::ImageFault;
@@ -14,78 +14,46 @@ pub(crate) fn run_text(alloc: Global, output: &[u8], end: &End) -> Result<Vec<u8
     if ends_amid_line(output) {
         text.push(b'\n')?;
     }
-    let end = end_text(alloc, end)?;
-    add_line(&mut text, b"== tilesim ==")?;
-    add_line(&mut text, end.as_slice())?;
+    let end = end_line(alloc, end)?;
+    text.extend_from_slice(b"== tilesim ==\n")?;
+    text.extend_from_slice(end.as_bytes())?;
     Ok(text)
 }
 
-/// How a run ended.
-fn end_text(alloc: Global, end: &End) -> Result<Vec<u8>, NoMemory>
-    ensures { IfOk result (λ text. text.items ≡ end_text end.now) }
+/// How a run ended, as a line.
+fn end_line(alloc: Global, end: &End) -> Result<String, NoMemory>
+    ensures { IfOk result (λ text. string_bytes text ≡ line (end_text end.now)) }
 {
-    let mut text = Vec::new(alloc);
     match *end {
-        End::Exit { code } => {
-            let words = format!(in alloc; "end: exit {code}")?;
-            text.extend_from_slice(words.as_bytes())?;
-        }
-        End::Trap { thread, cause, pc } => {
-            let trap = trap_text(alloc, thread, cause, pc)?;
-            text.extend_from_slice(b"end: ")?;
-            text.extend_from_slice(trap.as_slice())?;
-        }
-        End::Deadlock => text.extend_from_slice(b"end: deadlock")?,
-        End::Budget => text.extend_from_slice(b"end: budget")?,
+        End::Exit { code } => Ok(format!(in alloc; "end: exit {code}\n")?),
+        End::Trap { thread, cause, pc } => trap_line(alloc, thread, cause, pc),
+        End::Deadlock => Ok(String::from_str(alloc, "end: deadlock\n")?),
+        End::Budget => Ok(String::from_str(alloc, "end: budget\n")?),
     }
-    Ok(text)
 }
 
-/// What a trap is told by: its thread, its cause and its address.
-fn trap_text(alloc: Global, thread: u32, cause: Cause, pc: u64) -> Result<Vec<u8>, NoMemory>
-    ensures { IfOk result (λ text. text.items ≡ trap_text thread cause pc) }
+/// That a run ended by a trap, as a line.
+#[tactic(auto, using(crate::proofs::HexLemmas::hex_padded))]
+fn trap_line(alloc: Global, thread: u32, cause: Cause, pc: u64) -> Result<String, NoMemory>
+    ensures { IfOk result (λ text. string_bytes text ≡ line (codes "end: " ++ trap_text thread cause pc)) }
 {
-    let number = format!(in alloc; "trap thread {thread} ")?;
-    let mut text = Vec::from_slice(alloc, number.as_bytes())?;
-    text.extend_from_slice(cause_name(cause))?;
-    text.extend_from_slice(b" at 0x")?;
-    add_hex(&mut text, pc)?;
-    Ok(text)
-}
-
-/// Adds the 16 digits of a number to the base 16.
-#[tactic(auto, unfolding(crate::specs::Text::hex_digits))]
-fn add_hex(text: &mut Vec<u8>, number: u64) -> Result<(), NoMemory>
-    ensures { OnOk result (text.new.items ≡ text.old.items ++ hex_digits number) }
-{
-    for place in 0..16u32 {
-        let digit = (number >> (60 - 4 * place)) % 16;
-        text.push(hex_digit(digit as u8))?;
-    }
-    Ok(())
-}
-
-/// A digit to the base 16.
-fn hex_digit(n: u8) -> u8
-    requires { n < 16 }
-    ensures { result ≡ hex_digit n }
-{
-    if n < 10 { b'0' + n } else { b'a' - 10 + n }
+    let cause = cause_name(cause);
+    Ok(format!(in alloc; "end: trap thread {thread} {cause} at 0x{pc:016x}\n")?)
 }
 
 /// The name of a trap's cause, as it is printed.
-fn cause_name(cause: Cause) -> &'static [u8]
+fn cause_name(cause: Cause) -> &'static str
     ensures { result.now ≡ cause_name cause }
 {
     match cause {
-        Cause::InstrMisaligned => b"InstrMisaligned",
-        Cause::InstrAccess => b"InstrAccess",
-        Cause::Illegal => b"Illegal",
-        Cause::Breakpoint => b"Breakpoint",
-        Cause::LoadMisaligned => b"LoadMisaligned",
-        Cause::LoadAccess => b"LoadAccess",
-        Cause::StoreMisaligned => b"StoreMisaligned",
-        Cause::StoreAccess => b"StoreAccess",
+        Cause::InstrMisaligned => "InstrMisaligned",
+        Cause::InstrAccess => "InstrAccess",
+        Cause::Illegal => "Illegal",
+        Cause::Breakpoint => "Breakpoint",
+        Cause::LoadMisaligned => "LoadMisaligned",
+        Cause::LoadAccess => "LoadAccess",
+        Cause::StoreMisaligned => "StoreMisaligned",
+        Cause::StoreAccess => "StoreAccess",
     }
 }
 
@@ -93,39 +61,39 @@ fn cause_name(cause: Cause) -> &'static [u8]
 pub fn fault_line(alloc: Global, outcome: &Outcome) -> Result<Vec<u8>, NoMemory>
     ensures { IfOk result (λ text. text.items ≡ fault_text outcome.now) }
 {
-    let mut text = Vec::new(alloc);
-    match outcome {
-        Outcome::Usage => add_line(&mut text, b"tilesim: usage")?,
+    let text = match *outcome {
+        Outcome::Usage => String::from_str(alloc, "tilesim: usage\n")?,
         Outcome::BadImage { fault } => {
-            text.extend_from_slice(b"tilesim: bad image ")?;
-            add_line(&mut text, fault_name(*fault))?;
+            let fault = fault_name(fault);
+            format!(in alloc; "tilesim: bad image {fault}\n")?
         }
-        Outcome::NotBuilt => add_line(&mut text, b"tilesim: not built")?,
-        Outcome::ReadFault => add_line(&mut text, b"tilesim: read fault")?,
-        Outcome::Done { .. } | Outcome::Trap { .. } | Outcome::WriteFault | Outcome::NoMemory => {}
-    }
-    Ok(text)
+        Outcome::NotBuilt => String::from_str(alloc, "tilesim: not built\n")?,
+        Outcome::ReadFault => String::from_str(alloc, "tilesim: read fault\n")?,
+        Outcome::Done { .. } | Outcome::Trap { .. } | Outcome::WriteFault | Outcome::NoMemory =>
+            String::new(alloc),
+    };
+    Ok(text.into_bytes())
 }
 
 /// The name of a fault, as it is printed.
-fn fault_name(fault: ImageFault) -> &'static [u8]
+fn fault_name(fault: ImageFault) -> &'static str
     ensures { result.now ≡ fault_name fault }
 {
     match fault {
-        ImageFault::TooLong => b"TooLong",
-        ImageFault::Short => b"Short",
-        ImageFault::Magic => b"Magic",
-        ImageFault::Class => b"Class",
-        ImageFault::Kind => b"Kind",
-        ImageFault::Machine => b"Machine",
-        ImageFault::Headers => b"Headers",
-        ImageFault::Dynamic => b"Dynamic",
-        ImageFault::Interp => b"Interp",
-        ImageFault::Tls => b"Tls",
-        ImageFault::Reach => b"Reach",
-        ImageFault::Overlap => b"Overlap",
-        ImageFault::WriteExec => b"WriteExec",
-        ImageFault::Entry => b"Entry",
+        ImageFault::TooLong => "TooLong",
+        ImageFault::Short => "Short",
+        ImageFault::Magic => "Magic",
+        ImageFault::Class => "Class",
+        ImageFault::Kind => "Kind",
+        ImageFault::Machine => "Machine",
+        ImageFault::Headers => "Headers",
+        ImageFault::Dynamic => "Dynamic",
+        ImageFault::Interp => "Interp",
+        ImageFault::Tls => "Tls",
+        ImageFault::Reach => "Reach",
+        ImageFault::Overlap => "Overlap",
+        ImageFault::WriteExec => "WriteExec",
+        ImageFault::Entry => "Entry",
     }
 }
 
@@ -137,13 +105,4 @@ fn ends_amid_line(output: &[u8]) -> bool
         [] => false,
         [.., last] => *last != b'\n',
     }
-}
-
-/// Adds a line and its newline.
-fn add_line(text: &mut Vec<u8>, content: &[u8]) -> Result<(), NoMemory>
-    ensures { OnOk result (text.new.items ≡ text.old.items ++ line content.now) }
-{
-    text.extend_from_slice(content)?;
-    text.push(b'\n')?;
-    Ok(())
 }

@@ -1,5 +1,5 @@
-ghost use Rattle.std.specs.Prelude.{◌≡◌, ◌≤◌, ℕ, List};
-ghost use Rattle.sim_top.specs.Answer.{Answers};
+ghost use Rattle.std.specs.Prelude.{◌≡◌};
+ghost use Rattle.sim_top.specs.Answer.{Answers, AbsentIsReadFault};
 ghost use Rattle.sim_top.specs.Text.{status_of};
 
 use crate::decision::decide;
@@ -32,7 +32,7 @@ pub fn execute_alone<F: Files, S: Sink>(
         })
         result.outcome }
     // No file is changed.
-    ensures kept { (n : List ℕ) → F.holds files.new n ≡ F.holds files.old n }
+    ensures kept { F.holds files.new ≡ F.holds files.old }
 {
     match decide(alloc, words, files) {
         Err(NoMemory) => finish(Outcome::NoMemory),
@@ -42,6 +42,12 @@ pub fn execute_alone<F: Files, S: Sink>(
         },
     }
 }
+
+/// A law: where the words name a file, and it is told that this one isn't there, a fault of reading is the only
+/// outcome that the clause `answer` of `execute_alone` leaves, but for a fault of the stream and want of memory.
+pub fn absent_is_read_fault()
+    ensures { AbsentIsReadFault }
+{}
 
 /// The answer with this outcome.
 fn finish(outcome: Outcome) -> Finish
