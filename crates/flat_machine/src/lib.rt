@@ -2,6 +2,7 @@
 //! machine that everything else is measured against, and its interpreter.
 #![tactic(auto)]
 
+mod laws;
 mod machine;
 mod moves;
 mod regions;
@@ -10,7 +11,8 @@ mod reservations;
 mod runner;
 mod threads;
 
+pub use laws::{mapped_stays, one_legal_action, trap_has_cause};
 pub use machine::{ActFault, Flat};
 pub use regions::Memory;
-pub use runner::{mapped_stays, one_legal_action, run, trap_has_cause};
+pub use runner::run;
 pub use threads::{Status, Thread};

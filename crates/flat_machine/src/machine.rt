@@ -14,13 +14,7 @@ use sim_base::{Action, Bytes, End, NoMemory, NodeId};
 use std::alloc::Global;
 use std::marker::Model;
 use wire_msg::Call;
-
-/// Linux's numbers of the errors that calls answer, negated.
-const NO_SUCH_THREAD: u64 = u64::MAX - 2;
-
-const TRY_AGAIN: u64 = u64::MAX - 10;
-
-const INVALID: u64 = u64::MAX - 21;
+use wire_msg::error_numbers::{INVALID, NO_SUCH_THREAD, TRY_AGAIN};
 
 /// Why an action wasn't made. Either way nothing changed.
 #[derive(Clone, Copy, Debug, PartialEq, Eq)]
@@ -436,6 +430,13 @@ impl Flat {
         ensures { result.now ≡ self.now.output }
     {
         self.output.as_slice()
+    }
+
+    /// The threads, by their numbers.
+    pub fn threads(&self) -> &[Thread]
+        ensures { result.now ≡ self.now.threads }
+    {
+        self.threads.as_slice()
     }
 
     /// The byte at an address, 0 where nothing is mapped.

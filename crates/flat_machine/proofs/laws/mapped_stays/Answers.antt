@@ -1,5 +1,5 @@
 use Rattle.flat_machine.proofs.MappedLemmas.{mapped_stays}
-use Rattle.flat_machine.proofs.runner.mapped_stays.Goals as goal
+use Rattle.flat_machine.proofs.laws.mapped_stays.Goals as goal
 
 pub returns : goal.returns
 returns c = mapped_stays
