@@ -1,2 +1,11 @@
 mod Facts
 mod Fits
+pub mod OneLineCaches
+pub mod OneLineDeliver
+pub mod OneLineHappens
+pub mod OneLineHomes
+pub mod OneLineParts
+pub mod OneLinePlain
+pub mod OneLineStep
+pub mod OneLineWords
+pub mod OneLineSent

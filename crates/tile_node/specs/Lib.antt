@@ -1,6 +1,7 @@
 pub mod Tile
 pub mod Step
 pub mod Deliver
+pub mod OneLine
 pub mod Answers
 pub mod Inner
 pub use Rattle.tile_core.specs.Core

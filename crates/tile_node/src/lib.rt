@@ -5,8 +5,13 @@
 mod accesses;
 mod deliveries;
 mod homes;
+mod laws;
 mod rooms;
 mod steps;
 mod tile;
 
+pub use laws::{
+    deliveries_show_at_lines, happenings_are_right, homes_stand_apart, lines_are_told_to_homes,
+    messages_say_what_is_told, steps_show_at_lines, tiles_stay_tiles, words_of_homes_happen,
+};
 pub use tile::{TileCounts, TileNode};
