@@ -10,12 +10,10 @@ use crate::regions::Memory;
 use crate::threads::{Status, Thread};
 use elf_image::World;
 use rv_exec::{Access, AccessOp, Regs, finish};
+use rv_hart::registers::A0;
 use rv_hart::{Span, Step, next_step, reserved, span_of, start_registers};
 use sim_base::{Bytes, NodeId};
 use std::alloc::Global;
-
-/// The register that has the answer of a call.
-const A0: u8 = 10;
 
 /// A thread that is to begin at an entry with an argument.
 pub(crate) fn new_thread(entry: u64, arg: u64) -> Thread

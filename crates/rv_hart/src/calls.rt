@@ -2,6 +2,7 @@ ghost use Rattle.std.specs.Prelude.{◌≡◌, ◌-◌, ◌*◌, ◌/◌, ◌%�
 ghost use Rattle.rv_hart.specs.Call.{call_step, write_call, futex_call, without_bit_7};
 ghost use Rattle.rv_hart.specs.Step.{IsStep};
 
+use crate::registers::{A0, A1, A2, A3, A7};
 use crate::steps::Step;
 use elf_image::{Right, World};
 use rv_exec::Regs;
@@ -10,16 +11,6 @@ use wire_msg::error_numbers::{BAD_ADDRESS, BAD_DESCRIPTOR, INVALID, NO_SUCH_CALL
 
 /// The most bytes that one write call moves.
 const MOST_WRITTEN: u64 = 4096;
-
-const A0: u8 = 10;
-
-const A1: u8 = 11;
-
-const A2: u8 = 12;
-
-const A3: u8 = 13;
-
-const A7: u8 = 17;
 
 /// What the call that `a7` names asks for, by the thread with this number.
 pub(crate) fn call_step(world: &World, regs: &Regs, thread: u32) -> Step

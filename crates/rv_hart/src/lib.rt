@@ -3,6 +3,7 @@
 #![tactic(auto)]
 
 mod calls;
+pub mod registers;
 mod reservations;
 mod start;
 mod steps;

@@ -1,15 +1,10 @@
 ghost use Rattle.std.specs.Prelude.{◌≡◌, ◌<◌};
 ghost use Rattle.rv_hart.specs.Start.{start_registers};
 
+use crate::registers::{A0, SP};
 use elf_image::World;
 use rv_exec::Regs;
 use sim_base::NodeId;
-
-/// The stack pointer.
-const SP: u8 = 2;
-
-/// A thread's argument.
-const A0: u8 = 10;
 
 /// The registers of a thread that begins on a tile: `sp` is 64 bytes below the end of the tile's stack, `a0` has the
 /// argument, and every other register is zero.

@@ -6,11 +6,9 @@ use elf_image::World;
 use mesh_model::cost;
 use rv_exec::Access;
 use rv_hart::Step;
+use rv_hart::registers::A0;
 use sim_base::{Cause, CostClass};
 use wire_msg::Call;
-
-/// The register of a call's answer, `a0`.
-const A0: u8 = 10;
 
 /// What a core's next instruction asks of its tile.
 #[derive(Drop)]

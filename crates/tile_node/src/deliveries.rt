@@ -13,14 +13,12 @@ use crate::tile::TileNode;
 use clock_policy::may_go;
 use elf_image::World;
 use rv_exec::Access;
+use rv_hart::registers::A0;
 use sim_base::{Action, Line, LineData, NoMemory, NodeId};
 use std::alloc::Global;
 use tile_cache::Hold;
 use tile_core::{Status, Write};
 use wire_msg::{Msg, Out};
-
-/// The register of a call's answer, `a0`.
-const A0: u8 = 10;
 
 /// The line that a miss waits for: that of its access, or of a write's next byte.
 fn line_missed(write: &Write, access: Option<&Access>) -> Line
