@@ -1,7 +1,7 @@
 ghost use Rattle.std.specs.Prelude.{◌≡◌, ◌<◌, ◌==◌, ◌++◌, true, false, if◌then◌else◌, IfOk, OnOk, OnErr};
 ghost use Rattle.sim_base.specs.Numbering.{host_of};
 ghost use Rattle.sim_base.specs.Settings.{IsChecked};
-ghost use Rattle.local_server.specs.Local.{start_local, first_idle, with_tile, received, delivered, Answers};
+ghost use Rattle.local_server.specs.Local.{start_local, first_idle, with_tile, started, exited, received, delivered, Answers};
 
 use sim_base::{Config, NoMemory, NodeId};
 use std::alloc::Global;
@@ -138,16 +138,36 @@ fn receive(
     ensures sent { OnOk result (out.new.items ≡ out.old.items ++ (received config.now from msg idle.old.keys).mail) }
 {
     match &msg {
-        Msg::Start { .. } => {
-            if let Some(tile) = idle.pop_first() {
-                out.push((tile, msg))?;
-            }
-        }
-        Msg::Exit { .. } => {
-            idle.insert(from)?;
-            out.push((config.control(), msg))?;
-        }
-        _ => {}
+        Msg::Start { .. } => start(idle, msg, out),
+        Msg::Exit { .. } => exit(idle, config, from, msg, out),
+        _ => Ok(()),
     }
+}
+
+/// A start goes on to the lowest idle tile.
+fn start(idle: &mut BTreeSet<NodeId>, msg: Msg, out: &mut Out) -> Result<(), NoMemory>
+    ensures idle { OnOk result (idle.new.keys ≡ (started msg idle.old.keys).idle) }
+    ensures sent { OnOk result (out.new.items ≡ out.old.items ++ (started msg idle.old.keys).mail) }
+{
+    if let Some(tile) = idle.pop_first() {
+        out.push((tile, msg))?;
+    }
+    Ok(())
+}
+
+/// An exit makes its tile idle, and goes on to the control server.
+fn exit(
+    idle: &mut BTreeSet<NodeId>,
+    config: &Config,
+    from: NodeId,
+    msg: Msg,
+    out: &mut Out,
+) -> Result<(), NoMemory>
+    requires { IsChecked config.now }
+    ensures idle { OnOk result (idle.new.keys ≡ (exited config.now from msg idle.old.keys).idle) }
+    ensures sent { OnOk result (out.new.items ≡ out.old.items ++ (exited config.now from msg idle.old.keys).mail) }
+{
+    idle.insert(from)?;
+    out.push((config.control(), msg))?;
     Ok(())
 }

@@ -1,0 +1,11 @@
+pub mod Parking
+pub mod Waking
+pub mod Freest
+pub mod Counting
+pub mod Active
+pub mod Settled
+pub mod Outcome
+pub mod Served
+pub mod Keeping
+pub mod Orderly
+pub mod Ending

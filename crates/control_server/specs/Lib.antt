@@ -1,0 +1,4 @@
+pub mod Control
+pub mod Serve
+pub mod Deliver
+pub mod Inner
