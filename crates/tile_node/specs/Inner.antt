@@ -1,6 +1,6 @@
 -- For the contracts of the code alone: no clause of a public function needs this. What a rule's function answers, and
 -- parts of acts.
-use Rattle.std.specs.Prelude.{ℕ, ◌≡◌, ◌++◌, List, [], Option, Some, None, Result, Ok, Err, if◌then◌else◌}
+use Rattle.std.specs.Prelude.{ℕ, ◌≡◌, ◌++◌, List, [], Option, Result, Ok, Err}
 use Rattle.sim_base.specs.declared.actions.Action.{Action}
 use Rattle.sim_base.specs.declared.memory.NoMemory.{NoMemory}
 use Rattle.wire_msg.specs.declared.messages.Msg.{Msg}

@@ -1,6 +1,6 @@
 -- A tile's step: the first of five rules that applies. The policies are after Graphite's LaxBarrier and LaxP2P (HPCA
 -- 2010); the rest is this simulator's own.
-use Rattle.std.specs.Prelude.{ℕ, ◌+◌, ◌==◌, ◌&&◌, Bool, true, false, List, [], ◌∷◌, nat_lt, nat_le, if◌then◌else◌, Option, Some, None}
+use Rattle.std.specs.Prelude.{ℕ, ◌&&◌, Bool, true, false, [], ◌∷◌, nat_lt, nat_le, if◌then◌else◌, Option, Some, None}
 use Rattle.sim_base.specs.declared.actions.Action.TheVariants.{Exec, FailSc, Load as LoadByte}
 use Rattle.sim_base.specs.declared.ends.Cause.{Cause}
 use Rattle.sim_base.specs.declared.kinds.Policy.{Policy}

@@ -1,6 +1,6 @@
 -- A tile: a core, a private cache, a slice of the directory, and counts; and what it does in one event. After Graphite
 -- (HPCA 2010).
-use Rattle.std.specs.Prelude.{ℕ, ◌+◌, ◌/◌, ◌%◌, ◌==◌, Bool, true, false, List, [], ◌∷◌, ◌++◌, map, slice_index, if◌then◌else◌, Option, Some, None}
+use Rattle.std.specs.Prelude.{ℕ, ◌+◌, ◌%◌, ◌==◌, Bool, true, false, List, [], ◌++◌, map, slice_index, if◌then◌else◌, Option, Some, None}
 use Rattle.sim_base.specs.declared.actions.Action.{Action}
 use Rattle.sim_base.specs.declared.lines.LineData.{LineData}
 use Rattle.sim_base.specs.LittleEndian.{loaded}

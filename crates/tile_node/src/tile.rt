@@ -70,8 +70,8 @@ impl TileNode {
     ghost use Rattle.tile_node.specs.Deliver.{tile_delivered};
     ghost use Rattle.tile_node.specs.Answers.{IsOf, Answers};
 
-    #[tactic(auto, using(crate::proofs::Fits::start_fits))]
     /// A tile before the program runs: on tile 0 thread 0 begins at the image's entry, the others are idle.
+    #[tactic(auto, using(crate::proofs::Fits::start_fits))]
     pub fn new(alloc: Global, world: &World, tile: NodeId) -> Result<TileNode, NoMemory>
         requires { tile < world.now.config.tiles }
         ensures start { IfOk result (λ node. node ≡ start_tile world.now tile) }
@@ -98,10 +98,10 @@ impl TileNode {
         matches!(self.core.status, Status::Run | Status::Writing)
     }
 
-    #[tactic(auto, using(crate::proofs::Fits::step_fits, crate::proofs::Fits::kept_fits))]
     /// Its step: the first rule that applies of the barrier, the probe, the write under way and the next instruction. It
     /// appends what the tile sends, and gives the action of the flat machine that commits, if one does. The tile can
     /// step.
+    #[tactic(auto, using(crate::proofs::Fits::step_fits, crate::proofs::Fits::kept_fits))]
     pub fn step(
         &mut self,
         alloc: Global,
@@ -125,10 +125,10 @@ impl TileNode {
         }
     }
 
-    #[tactic(auto, using(crate::proofs::Fits::taken_fits, crate::proofs::Fits::kept_fits))]
     /// It takes a message from a node: one row of its table. A message from a node that may not send it changes nothing,
     /// nor does one that no row names. It appends what the tile sends, and gives the action of the flat machine that
     /// commits, if one does.
+    #[tactic(auto, using(crate::proofs::Fits::taken_fits, crate::proofs::Fits::kept_fits))]
     pub fn deliver(
         &mut self,
         alloc: Global,
