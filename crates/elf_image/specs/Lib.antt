@@ -3,3 +3,4 @@ pub mod File
 pub mod Header
 pub mod Image
 pub mod Layout
+pub mod Names

@@ -3,6 +3,7 @@ ghost use Rattle.std.specs.Prelude.{◌≡◌};
 
 use sim_base::NoMemory;
 use std::alloc::{AllocError, AllocFailed};
+use std::fmt;
 
 /// Why a file is no image, by this simulator's own rules. The first that stands counts.
 #[derive(Clone, Copy, Debug, PartialEq, Eq)]
@@ -36,6 +37,32 @@ pub enum ImageFault {
     WriteExec,
     /// The entry isn't a multiple of 4, or lies in no executable segment.
     Entry,
+}
+
+impl fmt::Display for ImageFault {
+    ghost use Rattle.std.specs.Prelude.{Some};
+    ghost use Rattle.elf_image.specs.Names.{fault_name};
+
+    ghost output = { λ fault. Some (fault_name fault) };
+
+    fn fmt<W: fmt::Write>(&self, f: &mut fmt::Formatter<W>) -> fmt::Result {
+        f.write_str(match self {
+            ImageFault::TooLong => "TooLong",
+            ImageFault::Short => "Short",
+            ImageFault::Magic => "Magic",
+            ImageFault::Class => "Class",
+            ImageFault::Kind => "Kind",
+            ImageFault::Machine => "Machine",
+            ImageFault::Headers => "Headers",
+            ImageFault::Dynamic => "Dynamic",
+            ImageFault::Interp => "Interp",
+            ImageFault::Tls => "Tls",
+            ImageFault::Reach => "Reach",
+            ImageFault::Overlap => "Overlap",
+            ImageFault::WriteExec => "WriteExec",
+            ImageFault::Entry => "Entry",
+        })
+    }
 }
 
 /// Why a file gave no image.

@@ -1,3 +1,4 @@
+pub mod Choice
 pub mod Event
 pub mod Laws
 pub mod Rules

@@ -1,3 +1,6 @@
+ghost use Rattle.std.specs.Prelude.{◌≡◌};
+ghost use Rattle.event_journal.specs.Event.{acting_node};
+
 use sim_base::NodeId;
 use std::marker::Model;
 
@@ -24,4 +27,15 @@ impl Model for Journal {
     ghost Value = { List Event };
 
     ghost view = { λ journal. journal.events.items };
+}
+
+impl Event {
+    /// The node that acts: the one that steps, or the one that takes a message.
+    pub fn node(&self) -> NodeId
+        ensures { result ≡ acting_node self.now }
+    {
+        match *self {
+            Event::Step { node } | Event::Deliver { node, .. } => node,
+        }
+    }
 }

@@ -1,4 +1,5 @@
 pub mod LittleEndian
+pub mod Names
 pub mod Numbering
 pub mod Ranges
 pub mod Saturated

@@ -1,3 +1,5 @@
+use std::fmt;
+
 /// Why an instruction trapped. The names follow the exceptions of the RISC-V privileged
 /// architecture; the order in which they are tested is said where instructions are executed.
 #[derive(Clone, Copy, Debug, PartialEq, Eq)]
@@ -18,6 +20,26 @@ pub enum Cause {
     StoreMisaligned,
     /// A store or an atomic at a byte that isn't writable.
     StoreAccess,
+}
+
+impl fmt::Display for Cause {
+    ghost use Rattle.std.specs.Prelude.{Some};
+    ghost use Rattle.sim_base.specs.Names.{cause_name};
+
+    ghost output = { λ cause. Some (cause_name cause) };
+
+    fn fmt<W: fmt::Write>(&self, f: &mut fmt::Formatter<W>) -> fmt::Result {
+        f.write_str(match self {
+            Cause::InstrMisaligned => "InstrMisaligned",
+            Cause::InstrAccess => "InstrAccess",
+            Cause::Illegal => "Illegal",
+            Cause::Breakpoint => "Breakpoint",
+            Cause::LoadMisaligned => "LoadMisaligned",
+            Cause::LoadAccess => "LoadAccess",
+            Cause::StoreMisaligned => "StoreMisaligned",
+            Cause::StoreAccess => "StoreAccess",
+        })
+    }
 }
 
 /// How a run ended.

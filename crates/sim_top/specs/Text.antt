@@ -2,11 +2,10 @@
 use Rattle.std.specs.Prelude.{ℕ, ◌-◌, ◌==◌, ◌&&◌, Bool, false, not, List, [], ◌∷◌, ◌++◌, length, replicate, slice_index, if◌then◌else◌, codes, decimal}
 use Rattle.std.specs.Fmt.{digits}
 use Rattle.sim_base.specs.declared.ends.Cause.{Cause}
-use Rattle.sim_base.specs.declared.ends.Cause.TheVariants.{InstrMisaligned, InstrAccess, Illegal, Breakpoint, LoadMisaligned, LoadAccess, StoreMisaligned, StoreAccess}
+use Rattle.sim_base.specs.Names.{cause_name}
 use Rattle.sim_base.specs.declared.ends.End.{End}
 use Rattle.sim_base.specs.declared.ends.End.TheVariants.{Exit, Trap, Deadlock, Budget}
-use Rattle.elf_image.specs.declared.refusal.ImageFault.{ImageFault}
-use Rattle.elf_image.specs.declared.refusal.ImageFault.TheVariants.{TooLong, Short, Magic, Class, Kind, Machine, Headers, Dynamic, Interp, Tls, Reach, Overlap, WriteExec, Entry}
+use Rattle.elf_image.specs.Names.{fault_name}
 use Rattle.sim_top.specs.declared.outcomes.Outcome.{Outcome}
 use Rattle.sim_top.specs.declared.outcomes.Outcome.TheVariants.{Done, Trap as TrapOutcome, Usage, BadImage, NotBuilt, ReadFault, WriteFault, NoMemory}
 
@@ -26,17 +25,6 @@ whole_lines output = if ends_amid_line output then line output else output
 unfoldable pub hex_digits : ℕ → List ℕ
 hex_digits n = replicate (16 - length (digits 16 false n)) 48 ++ digits 16 false n
 
--- the name of a trap's cause
-abbrev pub cause_name : Cause → List ℕ
-cause_name InstrMisaligned = codes "InstrMisaligned"
-cause_name InstrAccess = codes "InstrAccess"
-cause_name Illegal = codes "Illegal"
-cause_name Breakpoint = codes "Breakpoint"
-cause_name LoadMisaligned = codes "LoadMisaligned"
-cause_name LoadAccess = codes "LoadAccess"
-cause_name StoreMisaligned = codes "StoreMisaligned"
-cause_name StoreAccess = codes "StoreAccess"
-
 -- what a trap is told by: its thread, its cause and its address
 abbrev pub trap_text : ℕ → Cause → ℕ → List ℕ
 trap_text thread cause pc = codes "trap thread " ++ decimal thread ++ codes " " ++ cause_name cause ++ codes " at 0x" ++ hex_digits pc
@@ -51,23 +39,6 @@ end_text Budget = codes "end: budget"
 -- the text of a run: the program's output, and then how it ended
 abbrev pub run_text : List ℕ → End → List ℕ
 run_text output end = whole_lines output ++ line (codes "== tilesim ==") ++ line (end_text end)
-
--- the name of a fault
-abbrev pub fault_name : ImageFault → List ℕ
-fault_name TooLong = codes "TooLong"
-fault_name Short = codes "Short"
-fault_name Magic = codes "Magic"
-fault_name Class = codes "Class"
-fault_name Kind = codes "Kind"
-fault_name Machine = codes "Machine"
-fault_name Headers = codes "Headers"
-fault_name Dynamic = codes "Dynamic"
-fault_name Interp = codes "Interp"
-fault_name Tls = codes "Tls"
-fault_name Reach = codes "Reach"
-fault_name Overlap = codes "Overlap"
-fault_name WriteExec = codes "WriteExec"
-fault_name Entry = codes "Entry"
 
 -- the line that says why there was no run
 abbrev pub fault_text : Outcome → List ℕ

@@ -1,8 +1,7 @@
 ghost use Rattle.std.specs.Prelude.{◌≡◌, ◌++◌, IfOk, codes, string_bytes};
-ghost use Rattle.sim_top.specs.Text.{line, ends_amid_line, run_text, end_text, trap_text, cause_name, fault_text, fault_name};
+ghost use Rattle.sim_top.specs.Text.{line, ends_amid_line, run_text, end_text, trap_text, fault_text};
 
 use crate::outcomes::Outcome;
-use elf_image::ImageFault;
 use sim_base::{Cause, End, NoMemory};
 use std::alloc::Global;
 
@@ -37,24 +36,7 @@ fn end_line(alloc: Global, end: &End) -> Result<String, NoMemory>
 fn trap_line(alloc: Global, thread: u32, cause: Cause, pc: u64) -> Result<String, NoMemory>
     ensures { IfOk result (λ text. string_bytes text ≡ line (codes "end: " ++ trap_text thread cause pc)) }
 {
-    let cause = cause_name(cause);
     Ok(format!(in alloc; "end: trap thread {thread} {cause} at 0x{pc:016x}\n")?)
-}
-
-/// The name of a trap's cause, as it is printed.
-fn cause_name(cause: Cause) -> &'static str
-    ensures { result.now ≡ cause_name cause }
-{
-    match cause {
-        Cause::InstrMisaligned => "InstrMisaligned",
-        Cause::InstrAccess => "InstrAccess",
-        Cause::Illegal => "Illegal",
-        Cause::Breakpoint => "Breakpoint",
-        Cause::LoadMisaligned => "LoadMisaligned",
-        Cause::LoadAccess => "LoadAccess",
-        Cause::StoreMisaligned => "StoreMisaligned",
-        Cause::StoreAccess => "StoreAccess",
-    }
 }
 
 /// The line that says why there was no run. It is empty where there was one, and where no text is put.
@@ -63,38 +45,13 @@ pub fn fault_line(alloc: Global, outcome: &Outcome) -> Result<Vec<u8>, NoMemory>
 {
     let text = match *outcome {
         Outcome::Usage => String::from_str(alloc, "tilesim: usage\n")?,
-        Outcome::BadImage { fault } => {
-            let fault = fault_name(fault);
-            format!(in alloc; "tilesim: bad image {fault}\n")?
-        }
+        Outcome::BadImage { fault } => { format!(in alloc; "tilesim: bad image {fault}\n")? }
         Outcome::NotBuilt => String::from_str(alloc, "tilesim: not built\n")?,
         Outcome::ReadFault => String::from_str(alloc, "tilesim: read fault\n")?,
         Outcome::Done { .. } | Outcome::Trap { .. } | Outcome::WriteFault | Outcome::NoMemory =>
             String::new(alloc),
     };
     Ok(text.into_bytes())
-}
-
-/// The name of a fault, as it is printed.
-fn fault_name(fault: ImageFault) -> &'static str
-    ensures { result.now ≡ fault_name fault }
-{
-    match fault {
-        ImageFault::TooLong => "TooLong",
-        ImageFault::Short => "Short",
-        ImageFault::Magic => "Magic",
-        ImageFault::Class => "Class",
-        ImageFault::Kind => "Kind",
-        ImageFault::Machine => "Machine",
-        ImageFault::Headers => "Headers",
-        ImageFault::Dynamic => "Dynamic",
-        ImageFault::Interp => "Interp",
-        ImageFault::Tls => "Tls",
-        ImageFault::Reach => "Reach",
-        ImageFault::Overlap => "Overlap",
-        ImageFault::WriteExec => "WriteExec",
-        ImageFault::Entry => "Entry",
-    }
 }
 
 /// Whether an output isn't empty and doesn't end in a newline.

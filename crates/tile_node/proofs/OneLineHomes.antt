@@ -1,5 +1,5 @@
 -- A tile as a home: what it is told is its slice's alone. And tiles at the start.
-use Rattle.std.proofs.Common.{◌≡◌, ℕ, Bool, true, false, List, [], ◌∷◌, ◌++◌, Some, None, refl, ap, ◌∙◌}
+use Rattle.std.proofs.Common.{◌≡◌, ℕ, Bool, true, false, List, [], ◌∷◌, ◌++◌, Some, None, refl, sym, ap, ◌∙◌}
 use Rattle.std.proofs.lemmas.Bool.{cond-true}
 use Rattle.std.proofs.lemmas.Option.{none-some, same_Some}
 use Rattle.std.proofs.lemmas.List.Elements.{All-nil, All-cons, All-append, All-weaker}
@@ -19,7 +19,7 @@ use Rattle.tile_cache.proofs.CopyLemmas.{empty_shows}
 use Rattle.tile_core.specs.declared.cores.TileCore.{TileCore}
 use Rattle.tile_core.specs.Core.{idle_core, begun}
 use Rattle.tile_node.specs.Tile.{Tile, Act, quiet}
-use Rattle.tile_node.specs.Deliver.{home_does, tile_delivered}
+use Rattle.tile_node.specs.Deliver.{home_does, taken, tile_delivered}
 use Rattle.tile_node.specs.OneLine.{wants_by, DeliverStaysTile, ToldToReceivers, HomesHear, HomesSpeakOfLines, TilesStartEmpty}
 use Rattle.tile_node.proofs.OneLinePlain.{ToldRightly, IsElse, deliver_plain}
 
@@ -137,8 +137,15 @@ kept w t from (InvAck n) = heard_kept w t from (InvAck n) n acknowledges (may_se
 kept w t from (FetchAck n content) = heard_kept w t from (FetchAck n content) n (answers content) (may_send w.config from t.number (FetchAck n content))
 kept w t from msg = plain_kept w t from msg refl
 
+pub deliver_keeps_number : (w : Setup) (t : Tile) (from : ℕ) (msg : Msg) → (tile_delivered w t from msg).tile.number ≡ t.number
+deliver_keeps_number w t from msg = (kept w t from msg).number
+
+pub taken_keeps_number : (w : Setup) (t : Tile) (from : ℕ) (msg : Msg) → may_send w.config from t.number msg ≡ true → (taken w t from msg).tile.number ≡ t.number
+taken_keeps_number w t from msg may =
+    ap (λ act. act.tile.number) (sym (cond-true (may_send w.config from t.number msg) (taken w t from msg) (quiet t) may)) ∙ deliver_keeps_number w t from msg
+
 pub deliver_stays : DeliverStaysTile
-deliver_stays w t from msg h = let all = kept w t from msg in record { cache = all.cache h; number = all.number }
+deliver_stays w t from msg h = record { cache = (kept w t from msg).cache h; number = deliver_keeps_number w t from msg }
 
 pub deliver_told : ToldToReceivers
 deliver_told w t from msg = (kept w t from msg).told

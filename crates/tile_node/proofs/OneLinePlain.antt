@@ -116,8 +116,11 @@ step_plain w t =
     (plain_if (AtHome w) (looks_around w.config.policy w.config.tiles t.core.clock t.core.next_check) t _ _ (sends (AtHome w) t _ _ _ refl refl refl refl refl)
     (plain_if (AtHome w) (is_writing t.core.status) t _ _ (writes_plain w t) (follows_plain w t (plan_of w t.core))))
 
+pub step_keeps_number : (w : Setup) (t : Tile) → (tile_step w t).tile.number ≡ t.number
+step_keeps_number w t = ap (λ (p : ℕ × Slice). p.0) (step_plain w t).place
+
 pub step_stays : StepStaysTile
-step_stays w t h = let plain = step_plain w t in record { cache = plain.cache h; number = ap (λ (p : ℕ × Slice). p.0) plain.place }
+step_stays w t h = record { cache = (step_plain w t).cache h; number = step_keeps_number w t }
 
 pub step_told : ToldToHomes
 step_told w t = (step_plain w t).told

@@ -101,7 +101,7 @@ impl TileNode {
     /// Its step: the first rule that applies of the barrier, the probe, the write under way and the next instruction. It
     /// appends what the tile sends, and gives the action of the flat machine that commits, if one does. The tile can
     /// step.
-    #[tactic(auto, using(crate::proofs::Fits::step_fits, crate::proofs::Fits::kept_fits))]
+    #[tactic(auto, using(crate::proofs::Fits::step_fits, crate::proofs::Fits::kept_fits, crate::proofs::OneLinePlain::step_keeps_number))]
     pub fn step(
         &mut self,
         alloc: Global,
@@ -112,6 +112,7 @@ impl TileNode {
         requires can { can_step self.old ≡ true }
         ensures answers { Answers result self.old self.new out.old.items out.new.items (tile_step world.now self.old) }
         ensures fits { IsOf world.now self.new }
+        ensures number { self.new.number ≡ self.old.number }
     {
         if self.spent {
             return Err(NoMemory);
@@ -128,7 +129,7 @@ impl TileNode {
     /// It takes a message from a node: one row of its table. A message from a node that may not send it changes nothing,
     /// nor does one that no row names. It appends what the tile sends, and gives the action of the flat machine that
     /// commits, if one does.
-    #[tactic(auto, using(crate::proofs::Fits::taken_fits, crate::proofs::Fits::kept_fits))]
+    #[tactic(auto, using(crate::proofs::Fits::taken_fits, crate::proofs::Fits::kept_fits, crate::proofs::OneLineHomes::taken_keeps_number))]
     pub fn deliver(
         &mut self,
         alloc: Global,
@@ -140,6 +141,7 @@ impl TileNode {
         requires { IsOf world.now self.old }
         ensures answers { Answers result self.old self.new out.old.items out.new.items (tile_delivered world.now self.old from msg) }
         ensures fits { IsOf world.now self.new }
+        ensures number { self.new.number ≡ self.old.number }
     {
         if self.spent {
             return Err(NoMemory);

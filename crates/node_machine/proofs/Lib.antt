@@ -1,0 +1,14 @@
+pub mod RangeLemmas
+pub mod ShownLemmas
+pub mod StartLemmas
+pub mod MailLemmas
+pub mod MadeLemmas
+pub mod ApplyLemmas
+pub mod NodeSetLemmas
+pub mod PendingLemmas
+mod TrappingWords
+mod TrappingTiles
+mod TrappingServers
+mod TrappingRuns
+pub mod StepsLemmas
+pub mod MakeLemmas

@@ -1,0 +1,254 @@
+-- Who waits and who can act, after one list of messages or one node has changed.
+use Rattle.std.proofs.Common.{◌≡◌, ℕ, ◌+◌, ◌<◌, ◌≤◌, Bool, true, false, cond, List, [], ◌∷◌, ◌++◌, length, get_or, set, map, replicate, drop, Ordering, Less, Equal, Greater, Global, deque_len, Result, Ok, Err, refl, sym, ap, ◌∙◌, subst, arith, zero, suc, inl, inr, if◌then◌else◌}
+use Rattle.std.specs.Prelude.{not, ◌==◌, ◌||◌, OnErr, filter, All}
+use Rattle.std.specs.List.{range_with_len}
+use Rattle.std.specs.Ordering.{nat_cmp, match_ordering}
+use Rattle.std.specs.BTreeSet.{insert_key}
+use Rattle.std.proofs.lemmas.Bool.{ne_eqb, cases_lt, cases_Bool, eqb-true, eqb-false, false≢true}
+use Rattle.std.proofs.lemmas.List.{length-set, get_or-set_same, get_or-set_other, get_or-replicate, get_or_past, length-replicate, get_or-map, map-set, set-get_or}
+use Rattle.std.proofs.lemmas.List.Elements.{All-nil, All-cons, All-head, All-tail, All-filter, filter_agree}
+use Rattle.event_journal.specs.State.{is_empty}
+use Rattle.event_journal.proofs.Queues.{is_empty-length}
+use Rattle.std.specs.declared.collections.VecDeque.{VecDeque}
+use Rattle.wire_msg.specs.declared.messages.Msg.{Msg}
+use Rattle.node_machine.specs.NodeSet.{with_node, without_node}
+use Rattle.node_machine.specs.Pending.{Inbox, PendingData, queue_from, senders_in, with_queue_from, inbox_of, can_act_in, acting_in, rest_of}
+use Rattle.node_machine.proofs.NodeSetLemmas.{is_less, is_equal, is_greater}
+
+-- the numbers from one on are no lower
+pub range_above : (low n : ℕ) → All (λ x. low ≤ x) (range_with_len low n)
+range_above low zero = All-nil (λ x. low ≤ x)
+range_above low (suc n) = All-cons (λ x. low ≤ x) low (range_with_len (low + 1) n) (omega arith) (λ k d l. let h : low + 1 ≤ get_or (range_with_len (low + 1) n) k d = range_above (low + 1) n k d l in omega arith)
+
+-- a number below all others goes to the front
+insert_below : (xs : List ℕ) (k : ℕ) → All (λ x. k < x) xs → insert_key nat_cmp xs k ≡ k ∷ xs
+insert_below [] k above = refl
+insert_below (x ∷ xs) k above = rw (is_less k x (All-head (λ y. k < y) x xs above)) refl
+
+-- two tests that agree above a number keep the same of what is above
+filter_above : (p q : ℕ → Bool) (k : ℕ) → ((i : ℕ) → (i == k) ≡ false → q i ≡ p i) → (xs : List ℕ) → All (λ x. k < x) xs → filter p xs ≡ filter q xs
+filter_above p q k same [] above = refl
+filter_above p q k same (x ∷ xs) above =
+    let l : k < x = All-head (λ y. k < y) x xs above in
+    let e : q x ≡ p x = same x (ne_eqb x k (λ h. absurd (omega arith))) in
+    rw e (ap (λ ys. cond (p x) (x ∷ ys) ys) (filter_above p q k same xs (All-tail (λ y. k < y) x xs above)))
+
+-- what passes from one number on, where that number passes now
+at_start : (p q : ℕ → Bool) (k : ℕ) → ((i : ℕ) → (i == k) ≡ false → q i ≡ p i) → (n : ℕ) (b : Bool) → with_node k (cond b (k ∷ filter p (range_with_len (k + 1) n)) (filter p (range_with_len (k + 1) n))) ≡ k ∷ filter q (range_with_len (k + 1) n)
+at_start p q k same n true =
+    let above : All (λ x. k < x) (range_with_len (k + 1) n) = λ i d l. let h : k + 1 ≤ get_or (range_with_len (k + 1) n) i d = range_above (k + 1) n i d l in omega arith in
+    rw (is_equal k k refl) (ap (λ ys. k ∷ ys) (filter_above p q k same (range_with_len (k + 1) n) above))
+at_start p q k same n false =
+    let above : All (λ x. k < x) (range_with_len (k + 1) n) = λ i d l. let h : k + 1 ≤ get_or (range_with_len (k + 1) n) i d = range_above (k + 1) n i d l in omega arith in
+    insert_below (filter p (range_with_len (k + 1) n)) k (All-filter p (λ x. k < x) (range_with_len (k + 1) n) above) ∙ ap (λ ys. k ∷ ys) (filter_above p q k same (range_with_len (k + 1) n) above)
+
+-- what passes from a lower number on
+past_start : (xs ys : List ℕ) (k low : ℕ) → low < k → with_node k xs ≡ ys → (b : Bool) → with_node k (cond b (low ∷ xs) xs) ≡ cond b (low ∷ ys) ys
+past_start xs ys k low h e true = rw (is_greater k low h) (ap (λ zs. low ∷ zs) e)
+past_start xs ys k low h e false = e
+
+-- a test that no number passes
+pub nothing : (p : ℕ → Bool) (xs : List ℕ) → ((i : ℕ) → p i ≡ false) → filter p xs ≡ []
+nothing p [] none = refl
+nothing p (x ∷ xs) none = rw (none x) (nothing p xs none)
+
+-- one number more passes
+pub filter_with : (p q : ℕ → Bool) (k : ℕ) → ((i : ℕ) → (i == k) ≡ false → q i ≡ p i) → q k ≡ true → (low n : ℕ) → low ≤ k → k < low + n → with_node k (filter p (range_with_len low n)) ≡ filter q (range_with_len low n)
+filter_with p q k same passes low zero l m = absurd (omega arith)
+filter_with p q k same passes low (suc n) l m =
+    let again = filter_with p q k same passes (low + 1) n in
+    elim (cases_lt low k) [
+      | inl h ↦
+          let e : q low ≡ p low = same low (ne_eqb low k (λ s. absurd (omega arith))) in
+          past_start _ _ k low h (again (omega arith) (omega arith)) (p low) ∙ ap (λ b. cond b (low ∷ filter q (range_with_len (low + 1) n)) (filter q (range_with_len (low + 1) n))) (sym e)
+      | inr h ↦
+          let e : k ≡ low = omega arith in
+          subst (λ (i : ℕ). with_node k (filter p (range_with_len i (suc n))) ≡ filter q (range_with_len i (suc n))) e (at_start p q k same n (p k) ∙ ap (λ b. cond b (k ∷ filter q (range_with_len (k + 1) n)) (filter q (range_with_len (k + 1) n))) (sym passes))
+    ]
+
+without_that : (xs : List ℕ) (k x : ℕ) → (x == k) ≡ true → (b : Bool) → without_node k (cond b (x ∷ xs) xs) ≡ without_node k xs
+without_that xs k x e true = rw e refl
+without_that xs k x e false = refl
+
+without_another : (xs : List ℕ) (k x : ℕ) → (x == k) ≡ false → (b : Bool) → without_node k (cond b (x ∷ xs) xs) ≡ cond b (x ∷ without_node k xs) (without_node k xs)
+without_another xs k x e true = rw e refl
+without_another xs k x e false = refl
+
+-- one number fewer passes
+pub filter_without : (p q : ℕ → Bool) (k : ℕ) → ((i : ℕ) → (i == k) ≡ false → q i ≡ p i) → q k ≡ false → (xs : List ℕ) → without_node k (filter p xs) ≡ filter q xs
+filter_without p q k same fails [] = refl
+filter_without p q k same fails (x ∷ xs) =
+    let again = filter_without p q k same fails xs in
+    elim (cases_Bool (x == k)) [
+      | inl e ↦
+          without_that (filter p xs) k x e (p x) ∙ again ∙ ap (λ b. cond b (x ∷ filter q xs) (filter q xs)) (sym (ap q (eqb-true x k e) ∙ fails))
+      | inr e ↦
+          without_another (filter p xs) k x e (p x) ∙ ap (λ ys. cond (p x) (x ∷ ys) ys) again ∙ ap (λ b. cond b (x ∷ filter q xs) (filter q xs)) (sym (same x e))
+    ]
+
+-- the same number passes or not, as a flag says
+pub filter_put : (p q : ℕ → Bool) (k n : ℕ) (b : Bool) → ((i : ℕ) → (i == k) ≡ false → q i ≡ p i) → b ≡ q k → (q k ≡ true → k < n) → (if b then with_node k (filter p (range_with_len 0 n)) else without_node k (filter p (range_with_len 0 n))) ≡ filter q (range_with_len 0 n)
+filter_put p q k n true same e within = filter_with p q k same (sym e) 0 n (omega arith) (omega (arith, within (sym e)))
+filter_put p q k n false same e within = filter_without p q k same (sym e) (range_with_len 0 n)
+
+-- Inboxes
+
+-- at another place a written list is as it was
+elsewhere : {A : Type 0} (xs : List A) (i k : ℕ) (a d : A) → (i == k) ≡ false → get_or (set xs k a) i d ≡ get_or xs i d
+elsewhere xs i k a d e = get_or-set_other xs k i a d (eqb-false i k e)
+
+-- messages from a sender wait
+pub senders_with : (inbox : Inbox) (from : ℕ) (messages : List Msg) → from < length inbox → is_empty messages ≡ false → with_node from (senders_in inbox) ≡ senders_in (with_queue_from inbox from messages)
+senders_with inbox from messages l e =
+    let new = with_queue_from inbox from messages in
+    rw (length-set inbox from messages) (filter_with (λ i. not (is_empty (queue_from inbox i))) (λ i. not (is_empty (queue_from new i))) from
+    (λ i other. ap (λ queue. not (is_empty queue)) (elsewhere inbox i from messages [] other))
+    (ap (λ queue. not (is_empty queue)) (get_or-set_same inbox from messages [] l) ∙ ap not e) 0 (length inbox) (omega arith) (omega arith))
+
+-- no message from a sender waits
+pub senders_without : (inbox : Inbox) (from : ℕ) (messages : List Msg) → from < length inbox → is_empty messages ≡ true → without_node from (senders_in inbox) ≡ senders_in (with_queue_from inbox from messages)
+senders_without inbox from messages l e =
+    let new = with_queue_from inbox from messages in
+    rw (length-set inbox from messages) (filter_without (λ i. not (is_empty (queue_from inbox i))) (λ i. not (is_empty (queue_from new i))) from
+    (λ i other. ap (λ queue. not (is_empty queue)) (elsewhere inbox i from messages [] other))
+    (ap (λ queue. not (is_empty queue)) (get_or-set_same inbox from messages [] l) ∙ ap not e) (range_with_len 0 (length inbox)))
+
+-- whether a message from a sender waits stays as it is
+pub senders_same : (inbox : Inbox) (from : ℕ) (messages : List Msg) → from < length inbox → is_empty messages ≡ is_empty (queue_from inbox from) → senders_in inbox ≡ senders_in (with_queue_from inbox from messages)
+senders_same inbox from messages l e =
+    let new = with_queue_from inbox from messages in
+    rw (length-set inbox from messages) (filter_agree (λ i. not (is_empty (queue_from inbox i))) (λ i. not (is_empty (queue_from new i)))
+    (λ i. elim (cases_Bool (i == from)) [
+      | inl here ↦ subst (λ (j : ℕ). not (is_empty (queue_from inbox j)) ≡ not (is_empty (queue_from new j))) (sym (eqb-true i from here)) (ap not (sym (ap is_empty (get_or-set_same inbox from messages [] l) ∙ e)))
+      | inr other ↦ ap (λ queue. not (is_empty queue)) (sym (elsewhere inbox i from messages [] other))
+    ]) (range_with_len 0 (length inbox)))
+
+-- no one waits in an inbox in which no list has a message
+pub senders_none : (count : ℕ) → senders_in (replicate count []) ≡ []
+senders_none count = nothing (λ i. not (is_empty (queue_from (replicate count []) i))) (range_with_len 0 (length (replicate count []))) (λ i. elim (cases_lt i count) [
+  | inl l ↦ ap (λ queue. not (is_empty queue)) (get_or-replicate count i [] [] l)
+  | inr l ↦ ap (λ queue. not (is_empty queue)) (get_or_past (replicate count []) i [] (omega (arith, length-replicate {A = List Msg} count [])))
+])
+
+-- what holds either way holds on a failure
+pub on_err : {T E : Type 0} {P : Type 0} (r : Result T E) → P → OnErr r P
+on_err (Ok x) h = tt
+on_err (Err e) h = h
+
+-- The queues of an inbox
+
+-- the messages in a queue
+abbrev pub items_of : VecDeque Msg Global → List Msg
+items_of queue = queue.items
+
+-- what is read at a place
+pub queue_read : (queues : List (VecDeque Msg Global)) (from : ℕ) (queue : VecDeque Msg Global) → from < length queues → queue ≡ get_or queues from queue → queue.items ≡ queue_from (map items_of queues) from
+queue_read queues from queue l h = ap items_of h ∙ sym (get_or-map items_of queues from queue [] l)
+
+-- what is written at a place
+pub queue_written : (queues : List (VecDeque Msg Global)) (from : ℕ) (queue : VecDeque Msg Global) (messages : List Msg) → queue.items ≡ messages → map items_of (set queues from queue) ≡ with_queue_from (map items_of queues) from messages
+queue_written queues from queue messages h = map-set items_of queues from queue ∙ ap (with_queue_from (map items_of queues) from) h
+
+-- a write that puts a message behind the others
+pub queue_pushed : (queues : List (VecDeque Msg Global)) (from : ℕ) (old new : VecDeque Msg Global) (msg : Msg) → from < length queues → old ≡ get_or queues from old → new.items ≡ old.items ++ msg ∷ [] → map items_of (set queues from new) ≡ with_queue_from (map items_of queues) from (queue_from (map items_of queues) from ++ msg ∷ [])
+queue_pushed queues from old new msg l read pushed =
+    queue_written queues from new (queue_from (map items_of queues) from ++ msg ∷ []) (pushed ∙ ap (λ messages. messages ++ msg ∷ []) (queue_read queues from old l read))
+
+-- a write that changes no message
+pub queue_kept : (queues : List (VecDeque Msg Global)) (from : ℕ) (old new : VecDeque Msg Global) → from < length queues → old ≡ get_or queues from old → new.items ≡ old.items → map items_of (set queues from new) ≡ map items_of queues
+queue_kept queues from old new l read same =
+    queue_written queues from new (queue_from (map items_of queues) from) (same ∙ queue_read queues from old l read) ∙ set-get_or (map items_of queues) from []
+
+-- with a message behind the others a list has a message
+pub pushed_some : (messages : List Msg) (msg : Msg) → is_empty (messages ++ msg ∷ []) ≡ false
+pushed_some [] msg = refl
+pushed_some (first ∷ rest) msg = refl
+
+-- what stays is all but the first
+pub rest_is : (messages : List Msg) → drop 1 messages ≡ rest_of messages
+rest_is [] = refl
+rest_is (first ∷ rest) = refl
+
+-- what a queue keeps without its first message
+pub queue_rest : (queues : List (VecDeque Msg Global)) (from : ℕ) (old new : VecDeque Msg Global) → from < length queues → old ≡ get_or queues from old → new.items ≡ drop 1 old.items → new.items ≡ rest_of (queue_from (map items_of queues) from)
+queue_rest queues from old new l read rest = rest ∙ rest_is old.items ∙ ap rest_of (queue_read queues from old l read)
+
+-- a queue is empty as its length tells
+pub queue_empty : (queue : VecDeque Msg Global) → is_empty queue.items ≡ (deque_len queue == 0)
+queue_empty queue = is_empty-length queue.items ∙ ap (λ n. n == 0) (sym queue.ok.0)
+
+-- where messages stay there were messages
+pub rest_some : (messages : List Msg) → is_empty (rest_of messages) ≡ false → is_empty (rest_of messages) ≡ is_empty messages
+rest_some [] e = refl
+rest_some (first ∷ rest) e = e
+
+-- The nodes that can act
+
+-- past the nodes no one acts
+pub acts_within : (pending : PendingData) (node : ℕ) → length pending.steps ≡ length pending.inboxes → can_act_in pending node ≡ true → node < length pending.inboxes
+acts_within pending node same acts = elim (cases_lt node (length pending.inboxes)) [
+  | inl l ↦ l
+  | inr l ↦ absurd (false≢true (sym (ap (λ can. can || not (is_empty (senders_in (inbox_of pending.inboxes node)))) (get_or_past pending.steps node false (omega arith)) ∙ ap (λ inbox. not (is_empty (senders_in inbox))) (get_or_past pending.inboxes node [] l)) ∙ acts))
+]
+
+-- who can act once one node has changed
+pub acting_put : (old new : PendingData) (node : ℕ) (acts : Bool) → length new.inboxes ≡ length old.inboxes → length new.steps ≡ length new.inboxes → ((i : ℕ) → (i == node) ≡ false → can_act_in new i ≡ can_act_in old i) → acts ≡ can_act_in new node → (if acts then with_node node (acting_in old) else without_node node (acting_in old)) ≡ acting_in new
+acting_put old new node acts as_many complete same e =
+    let put = filter_put (can_act_in old) (can_act_in new) node (length old.inboxes) acts same e (λ can. omega (arith, acts_within new node complete can)) in
+    put ∙ ap (λ n. filter (can_act_in new) (range_with_len 0 n)) (sym as_many)
+
+-- once it is noted whether a node can step
+pub acting_step : (inboxes : List Inbox) (steps noted : List Bool) (node : ℕ) (can acts : Bool) → length steps ≡ length inboxes → noted ≡ set steps node can → acts ≡ can_act_in (record { inboxes = inboxes; steps = noted }) node → (if acts then with_node node (acting_in (record { inboxes = inboxes; steps = steps })) else without_node node (acting_in (record { inboxes = inboxes; steps = steps }))) ≡ acting_in (record { inboxes = inboxes; steps = noted })
+acting_step inboxes steps noted node can acts complete e is =
+    acting_put (record { inboxes = inboxes; steps = steps }) (record { inboxes = inboxes; steps = noted }) node acts refl
+    (ap length e ∙ length-set steps node can ∙ complete)
+    (λ i other. ap (λ step. step || not (is_empty (senders_in (inbox_of inboxes i)))) (ap (λ flags. get_or flags i false) e ∙ elsewhere steps i node can false other))
+    is
+
+-- once a node has another inbox
+pub acting_inbox : (inboxes : List Inbox) (steps : List Bool) (node : ℕ) (inbox : Inbox) (acts : Bool) → length steps ≡ length inboxes → acts ≡ can_act_in (record { inboxes = set inboxes node inbox; steps = steps }) node → (if acts then with_node node (acting_in (record { inboxes = inboxes; steps = steps })) else without_node node (acting_in (record { inboxes = inboxes; steps = steps }))) ≡ acting_in (record { inboxes = set inboxes node inbox; steps = steps })
+acting_inbox inboxes steps node inbox acts complete is =
+    acting_put (record { inboxes = inboxes; steps = steps }) (record { inboxes = set inboxes node inbox; steps = steps }) node acts
+    (length-set inboxes node inbox)
+    (complete ∙ sym (length-set inboxes node inbox))
+    (λ i other. ap (λ one. get_or steps i false || not (is_empty (senders_in one))) (elsewhere inboxes i node inbox [] other))
+    is
+
+-- a set with one node more isn't empty
+with_some : (nodes : List ℕ) (node : ℕ) → is_empty (with_node node nodes) ≡ false
+with_some [] node = refl
+with_some (first ∷ rest) node = by (nat_cmp node first)
+  where
+    by : (r : Ordering) → is_empty (match_ordering r (node ∷ first ∷ rest) (first ∷ rest) (first ∷ with_node node rest)) ≡ false
+    by Less = refl
+    by Equal = refl
+    by Greater = refl
+
+either_true : (b : Bool) → (b || true) ≡ true
+either_true true = refl
+either_true false = refl
+
+-- who has an inbox with a place in it is a node
+pub node_within : (inboxes : List Inbox) (node from : ℕ) → from < length (inbox_of inboxes node) → node < length inboxes
+node_within inboxes node from l = elim (cases_lt node (length inboxes)) [
+  | inl h ↦ h
+  | inr h ↦ absurd (omega (arith, ap length (get_or_past inboxes node [] h)))
+]
+
+-- who has a message can act
+pub acts_pushed : (inboxes : List Inbox) (steps : List Bool) (to from : ℕ) (msg : Msg) (inbox : Inbox) → to < length inboxes → from < length (inbox_of inboxes to) → inbox ≡ with_queue_from (inbox_of inboxes to) from (queue_from (inbox_of inboxes to) from ++ msg ∷ []) → true ≡ can_act_in (record { inboxes = set inboxes to inbox; steps = steps }) to
+acts_pushed inboxes steps to from msg inbox l m e =
+    let old = inbox_of inboxes to in
+    let messages = queue_from old from ++ msg ∷ [] in
+    let some : is_empty (senders_in inbox) ≡ false = ap (λ one. is_empty (senders_in one)) e ∙ ap is_empty (sym (senders_with old from messages m (pushed_some (queue_from old from) msg))) ∙ with_some (senders_in old) from in
+    sym (ap (λ one. get_or steps to false || not (is_empty (senders_in one))) (get_or-set_same inboxes to inbox [] l) ∙ ap (λ none. get_or steps to false || not none) some ∙ either_true (get_or steps to false))
+
+-- no one can act where nothing is pending
+pub acting_none : (nodes count : ℕ) → acting_in (record { inboxes = replicate nodes (replicate count []); steps = replicate nodes false }) ≡ []
+acting_none nodes count =
+    let inboxes : List Inbox = replicate nodes (replicate count []) in
+    let none : is_empty (senders_in (replicate count [])) ≡ true = ap is_empty (senders_none count) in
+    nothing (can_act_in (record { inboxes = inboxes; steps = replicate nodes false })) (range_with_len 0 (length inboxes)) (λ i. elim (cases_lt i nodes) [
+      | inl l ↦ ap (λ step. step || not (is_empty (senders_in (inbox_of inboxes i)))) (get_or-replicate nodes i false false l) ∙ ap (λ inbox. not (is_empty (senders_in inbox))) (get_or-replicate nodes i (replicate count []) [] l) ∙ ap not none
+      | inr l ↦ ap (λ step. step || not (is_empty (senders_in (inbox_of inboxes i)))) (get_or_past (replicate nodes false) i false (omega (arith, length-replicate nodes false))) ∙ ap (λ inbox. not (is_empty (senders_in inbox))) (get_or_past inboxes i [] (omega (arith, length-replicate {A = Inbox} nodes (replicate count []))))
+    ])

@@ -1,0 +1,55 @@
+-- For the contracts of the code alone: no clause of a public function needs this.
+use Rattle.std.specs.Prelude.{ℕ, ◌≡◌, ◌<◌, true, List, length, map, slice_get, slice_set, Option, Some, None, Result, Ok, Err}
+use Rattle.sim_base.specs.declared.actions.Action.{Action}
+use Rattle.sim_base.specs.declared.memory.NoMemory.{NoMemory}
+use Rattle.elf_image.specs.Layout.{Setup}
+use Rattle.wire_msg.specs.declared.envelopes.Envelope.{Envelope}
+use Rattle.wire_msg.specs.declared.messages.Msg.{Msg}
+use Rattle.event_journal.specs.declared.events.Event.{Event}
+use Rattle.event_journal.specs.declared.events.Event.TheVariants.{Step, Deliver}
+use Rattle.event_journal.specs.Event.{acting_node}
+use Rattle.node_machine.specs.declared.nodes.Node.{Node}
+use Rattle.node_machine.specs.Pending.{Inbox, PendingData, queue_in, with_rest, first_of, rest_of, with_messages}
+use Rattle.node_machine.specs.Machine.{Act, quiet, can_step, node_step, node_delivered, IsNode}
+
+-- each node of a list is the machine's of its number
+abbrev pub AreNodes : Setup → List Node → Type 0
+AreNodes w nodes = (k : ℕ) (node : Node) → slice_get nodes k ≡ Some node → IsNode w k node
+
+-- what the acting node does in an event, and what of the messages stays
+abbrev pub taken_act : Setup → Node → ℕ → Option Msg → Act
+taken_act w node from None = quiet node
+taken_act w node from (Some msg) = node_delivered w node from msg
+
+abbrev pub event_act : Setup → Event → Node → List Inbox → Act
+event_act w (Step id) node inboxes = node_step w node
+event_act w (Deliver from id) node inboxes = taken_act w node from (first_of (queue_in inboxes from id))
+
+abbrev pub inboxes_left : Event → List Inbox → List Inbox
+inboxes_left (Step id) inboxes = inboxes
+inboxes_left (Deliver from id) inboxes = with_rest from id (rest_of (queue_in inboxes from id)) inboxes
+
+-- the event is made
+pub record IsDone (w : Setup) (event : Event) (node : Node) (action : Option Action) (old new : List Node) (before after : PendingData) : Type 0 where
+  pub nodes : new ≡ slice_set old (acting_node event) (event_act w event node before.inboxes).node
+  pub inboxes : after.inboxes ≡ with_messages (acting_node event) (event_act w event node before.inboxes).sent (inboxes_left event before.inboxes)
+  pub steps : after.steps ≡ map can_step new
+  pub commits : action ≡ (event_act w event node before.inboxes).action
+
+abbrev pub HasMade : Setup → Event → Result (Option Action) NoMemory → List Node → List Node → PendingData → PendingData → Type 0
+HasMade w event (Ok action) old new before after =
+    (node : Node) → slice_get old (acting_node event) ≡ Some node → IsDone w event node action old new before after
+HasMade w event (Err e) old new before after = length new ≡ length old
+
+-- the acting node is there, and can make the event
+abbrev pub CanStep : Event → Node → Type 0
+CanStep (Step id) node = can_step node ≡ true
+CanStep (Deliver from id) node = Unit {0}
+
+pub record CanBeMade (event : Event) (nodes : List Node) : Type 0 where
+  pub in_range : acting_node event < length nodes
+  pub can : (node : Node) → slice_get nodes (acting_node event) ≡ Some node → CanStep event node
+
+-- a message's sender and receiver are among so many nodes
+abbrev pub AreBelow : ℕ → Envelope → Type 0
+AreBelow count envelope = (envelope.from < count) × (envelope.to < count)

@@ -1,0 +1,180 @@
+ghost use Rattle.std.specs.Prelude.{◌≡◌, ◌<◌, ◌≤◌, ◌+◌, [], All, length, map, nat_le, slice_set, slice_index, IfOk, OnOk};
+ghost use Rattle.event_journal.specs.Event.{acting_node};
+ghost use Rattle.node_machine.specs.Machine.{can_step, Acts, IsNode};
+ghost use Rattle.node_machine.specs.Pending.{nothing_pending, with_message, with_messages, AreInboxes};
+ghost use Rattle.node_machine.specs.Core.{with_envelopes, is_full};
+ghost use Rattle.node_machine.specs.Inner.{AreNodes, AreBelow, CanBeMade, CanStep, event_act, taken_act, inboxes_left, HasMade};
+
+use crate::nodes::Node;
+use crate::pending::Pending;
+use elf_image::World;
+use event_journal::Event;
+use sim_base::{Action, NoMemory, NodeId};
+use std::alloc::Global;
+use wire_msg::{Envelope, Msg, Out};
+
+/// Makes an event of one of the nodes, which can make it: the node acts, and what it sends joins the lists.
+pub(crate) fn make(
+    alloc: Global,
+    world: &World,
+    event: Event,
+    nodes: &mut Vec<Node>,
+    pending: &mut Pending,
+    out: &mut Out,
+) -> Result<Option<Action>, NoMemory>
+    requires nodes { AreNodes world.now nodes.old.items }
+    requires steps { pending.old.steps ≡ map can_step nodes.old.items }
+    requires inboxes { AreInboxes (length nodes.old.items) pending.old.inboxes }
+    requires none_sent { out.old.items ≡ [] }
+    requires can { CanBeMade event nodes.old.items }
+    ensures made { HasMade world.now event result nodes.old.items nodes.new.items pending.old pending.new }
+    ensures nodes { AreNodes world.now nodes.new.items }
+    ensures inboxes { AreInboxes (length nodes.old.items) pending.new.inboxes }
+    ensures none_sent { OnOk result (out.new.items ≡ []) }
+{
+    let id = event.node();
+    let Some(node) = nodes.get_mut(id as usize) else {
+        return Ok(None);
+    };
+    let action = act(alloc, world, event, node, pending, out)?;
+    pending.set_step(id, node.can_step());
+    post(id, out, pending)?;
+    Ok(action)
+}
+
+/// The node whose event it is acts: it steps, or takes the first message of the sender.
+fn act(
+    alloc: Global,
+    world: &World,
+    event: Event,
+    node: &mut Node,
+    pending: &mut Pending,
+    out: &mut Out,
+) -> Result<Option<Action>, NoMemory>
+    requires fits { IsNode world.now (acting_node event) node.old }
+    requires can { CanStep event node.old }
+    ensures acts { Acts result node.new out.old.items out.new.items (event_act world.now event node.old pending.old.inboxes) }
+    ensures fits { IsNode world.now (acting_node event) node.new }
+    ensures pending { pending.new ≡ record pending.old { inboxes = inboxes_left event pending.old.inboxes } }
+{
+    match event {
+        Event::Step { node: id } => node.step(alloc, world, id, out),
+        Event::Deliver { from, node: id } => {
+            let msg = pending.pop(from, id);
+            take(alloc, world, id, node, from, msg, out)
+        }
+    }
+}
+
+/// A node takes a message from a sender, if there is one.
+fn take(
+    alloc: Global,
+    world: &World,
+    id: NodeId,
+    node: &mut Node,
+    from: NodeId,
+    msg: Option<Msg>,
+    out: &mut Out,
+) -> Result<Option<Action>, NoMemory>
+    requires fits { IsNode world.now id node.old }
+    ensures acts { Acts result node.new out.old.items out.new.items (taken_act world.now node.old from msg) }
+    ensures fits { IsNode world.now id node.new }
+{
+    match msg {
+        Some(msg) => node.deliver(alloc, world, id, from, msg, out),
+        None => Ok(None),
+    }
+}
+
+/// What a node has sent joins the lists of its receivers, in order.
+fn post(from: NodeId, out: &mut Out, pending: &mut Pending) -> Result<(), NoMemory>
+    requires from { from < length pending.old.inboxes }
+    requires inboxes { AreInboxes (length pending.old.inboxes) pending.old.inboxes }
+    ensures posted { OnOk result (pending.new ≡ record pending.old { inboxes = with_messages from out.old.items pending.old.inboxes }) }
+    ensures none_sent { OnOk result (out.new.items ≡ []) }
+    ensures inboxes { AreInboxes (length pending.old.inboxes) pending.new.inboxes }
+{
+    for (to, msg) in out.drain(..) {
+        post_one(from, to, msg, pending)?;
+    }
+    Ok(())
+}
+
+/// A message from a node joins its list. One for a node that isn't there is dropped.
+fn post_one(from: NodeId, to: NodeId, msg: Msg, pending: &mut Pending) -> Result<(), NoMemory>
+    requires from { from < length pending.old.inboxes }
+    requires inboxes { AreInboxes (length pending.old.inboxes) pending.old.inboxes }
+    ensures posted { OnOk result (pending.new ≡ record pending.old { inboxes = with_message from to msg pending.old.inboxes }) }
+    ensures length { length pending.new.inboxes ≡ length pending.old.inboxes }
+    ensures inboxes { AreInboxes (length pending.old.inboxes) pending.new.inboxes }
+{
+    if (to as usize) < pending.nodes() {
+        pending.push(from, to, msg)?;
+    }
+    Ok(())
+}
+
+/// A node, which may make one more event, has made it. It is noted whether some node may make none after it.
+#[tactic(auto, using(crate::proofs::MakeLemmas::full_set))]
+pub(crate) fn count_event(made: &mut Vec<u32>, full: &mut bool, id: NodeId, room: u32)
+    requires in_range { id < length made.old.items }
+    requires room { slice_index made.old.items id < room }
+    requires full { full.old ≡ is_full room made.old.items }
+    ensures made { made.new.items ≡ slice_set made.old.items id (slice_index made.old.items id + 1) }
+    ensures full { full.new ≡ is_full room made.new.items }
+{
+    let count = &mut made[id as usize];
+    *count += 1;
+    if room <= *count {
+        *full = true;
+    }
+}
+
+/// Whether some node has made as many events as each may.
+pub(crate) fn is_full(room: u32, made: &[u32]) -> bool
+    ensures { result ≡ is_full room made.now }
+{
+    made.iter().any(|count| room <= *count)
+}
+
+/// What is pending at these nodes: which can step, and these messages.
+pub(crate) fn pending_of(
+    alloc: Global,
+    nodes: &[Node],
+    waiting: Vec<Envelope>,
+) -> Result<Pending, NoMemory>
+    requires few { length nodes.now ≤ 256 }
+    requires waiting { All (AreBelow (length nodes.now)) waiting.items }
+    ensures inboxes { IfOk result (λ pending. pending.inboxes ≡ with_envelopes waiting.items (nothing_pending (length nodes.now)).inboxes) }
+    ensures boxes { IfOk result (λ pending. AreInboxes (length nodes.now) pending.inboxes) }
+    ensures steps { IfOk result (λ pending. pending.steps ≡ map can_step nodes.now) }
+{
+    let mut pending = Pending::new(alloc, nodes.len())?;
+    note_steps(nodes, &mut pending);
+    post_all(waiting, &mut pending)?;
+    Ok(pending)
+}
+
+/// Notes of each node whether it can step.
+fn note_steps(nodes: &[Node], pending: &mut Pending)
+    requires length { length pending.old.steps ≡ length nodes.now }
+    requires few { length nodes.now ≤ 256 }
+    ensures { pending.new ≡ record pending.old { steps = map can_step nodes.now } }
+{
+    for (id, node) in nodes.iter().enumerate() {
+        pending.set_step(id as NodeId, node.can_step());
+    }
+}
+
+/// Messages that wait, each with its sender and its receiver, join their lists, in order.
+fn post_all(waiting: Vec<Envelope>, pending: &mut Pending) -> Result<(), NoMemory>
+    requires senders { All (AreBelow (length pending.old.inboxes)) waiting.items }
+    requires inboxes { AreInboxes (length pending.old.inboxes) pending.old.inboxes }
+    ensures posted { OnOk result (pending.new ≡ record pending.old { inboxes = with_envelopes waiting.items pending.old.inboxes }) }
+    ensures inboxes { AreInboxes (length pending.old.inboxes) pending.new.inboxes }
+{
+    for Envelope { from, to, msg, .. } in waiting {
+        post_one(from, to, msg, pending)?;
+    }
+    Ok(())
+}

@@ -1,0 +1,229 @@
+ghost use Rattle.std.specs.Prelude.{◌≡◌, ◌<◌, ◌≤◌, ◌++◌, ◌∷◌, [], not, length, replicate, slice_set, slice_index_or, IfOk, OnOk, OnErr, false};
+ghost use Rattle.event_journal.specs.State.{is_empty};
+ghost use Rattle.node_machine.specs.NodeSet.{with_node, without_node};
+ghost use Rattle.node_machine.specs.Pending.{queue_from, senders_in, with_queue_from, inbox_of, queue_in, can_act_in, acting_in, nothing_pending, with_message, first_of, rest_of, with_rest};
+
+use crate::node_sets::NodeSet;
+use sim_base::{NoMemory, NodeId};
+use std::alloc::Global;
+use std::collections::VecDeque;
+use std::marker::Model;
+use wire_msg::Msg;
+
+/// The messages that wait for one node, which contracts see as a list for each sender.
+#[derive(Drop)]
+pub(crate) struct Inbox {
+    queues: Vec<VecDeque<Msg>>,
+    senders: NodeSet,
+}
+
+impl Model for Inbox {
+    ghost use Rattle.std.specs.Prelude.{◌≡◌, ◌≤◌, map, length};
+    ghost use Rattle.node_machine.specs.Pending.{Inbox, senders_in};
+
+    ghost Value = { Inbox };
+
+    ghost view = { λ i. map (λ queue. queue.items) i.queues.items };
+
+    ghost invariant = { λ i. (i.senders ≡ senders_in (map (λ queue. queue.items) i.queues.items)) × (length i.queues.items ≤ 256) };
+}
+
+impl Inbox {
+    /// No message waits from any of so many senders.
+    pub(crate) fn new(alloc: Global, count: usize) -> Result<Inbox, NoMemory>
+        requires { count ≤ 256 }
+        ensures { IfOk result (λ inbox. inbox ≡ replicate count []) }
+    {
+        let mut queues = Vec::with_capacity(alloc, count)?;
+        for _ in 0..count {
+            queues.push(VecDeque::new(alloc))?;
+        }
+        let senders = NodeSet::new(alloc)?;
+        Ok(Inbox { queues, senders })
+    }
+
+    /// A message from a sender, who is one of them, waits behind the others. Where memory runs out nothing changes.
+    pub(crate) fn push(&mut self, from: NodeId, msg: Msg) -> Result<(), NoMemory>
+        requires { from < length self.old }
+        ensures ok { OnOk result (self.new ≡ with_queue_from self.old from (queue_from self.old from ++ msg ∷ [])) }
+        ensures err { OnErr result (self.new ≡ self.old) }
+    {
+        self.queues[from as usize].push_back(msg)?;
+        self.senders.insert(from);
+        Ok(())
+    }
+
+    /// Takes the first message of a sender, where one waits.
+    pub(crate) fn pop(&mut self, from: NodeId) -> Option<Msg>
+        ensures message { result ≡ first_of (queue_from self.old from) }
+        ensures rest { self.new ≡ with_queue_from self.old from (rest_of (queue_from self.old from)) }
+    {
+        let queue = self.queues.get_mut(from as usize)?;
+        let msg = queue.pop_front();
+        if queue.is_empty() {
+            self.senders.remove(from);
+        }
+        msg
+    }
+
+    /// Whether a message of a sender waits.
+    pub(crate) fn has(&self, from: NodeId) -> bool
+        ensures { result ≡ not (is_empty (queue_from self.now from)) }
+    {
+        match self.queues.get(from as usize) {
+            Some(queue) => !queue.is_empty(),
+            None => false,
+        }
+    }
+
+    /// The senders from whom a message waits, in ascending order.
+    pub(crate) fn senders(&self) -> &[NodeId]
+        ensures { result.now ≡ senders_in self.now }
+    {
+        self.senders.as_slice()
+    }
+}
+
+/// What is pending in a machine: the messages that wait for each node, and which nodes can step. It keeps which nodes can
+/// act, so that no event has to look at all of them.
+#[derive(Drop)]
+pub(crate) struct Pending {
+    inboxes: Vec<Inbox>,
+    steps: Vec<bool>,
+    acting: NodeSet,
+}
+
+impl Model for Pending {
+    ghost use Rattle.std.specs.Prelude.{◌≡◌, ◌≤◌, length};
+    ghost use Rattle.node_machine.specs.Pending.{PendingData, acting_in};
+
+    ghost Value = { PendingData };
+
+    ghost view = { λ p. record { inboxes = p.inboxes.items; steps = p.steps.items } };
+
+    ghost invariant = { λ p.
+        (p.acting ≡ acting_in (record { inboxes = p.inboxes.items; steps = p.steps.items }))
+        × ((length p.steps.items ≡ length p.inboxes.items) × (length p.inboxes.items ≤ 256)) };
+}
+
+impl Pending {
+    /// So many nodes, none of which can step, and no message that waits.
+    pub(crate) fn new(alloc: Global, count: usize) -> Result<Pending, NoMemory>
+        requires { count ≤ 256 }
+        ensures { IfOk result (λ pending. pending ≡ nothing_pending count) }
+    {
+        let mut inboxes = Vec::with_capacity(alloc, count)?;
+        let mut steps = Vec::with_capacity(alloc, count)?;
+        for _ in 0..count {
+            inboxes.push(Inbox::new(alloc, count)?)?;
+            steps.push(false)?;
+        }
+        let acting = NodeSet::new(alloc)?;
+        Ok(Pending {
+            inboxes,
+            steps,
+            acting,
+        })
+    }
+
+    /// How many nodes there are.
+    pub(crate) fn nodes(&self) -> usize
+        ensures { result ≡ length self.now.inboxes }
+    {
+        self.inboxes.len()
+    }
+
+    /// Notes whether a node can step.
+    pub(crate) fn set_step(&mut self, node: NodeId, can: bool)
+        ensures { self.new ≡ record self.old { steps = slice_set self.old.steps node can } }
+    {
+        note_step(&mut self.steps, node, can);
+        let acts = can_act(&self.inboxes, &self.steps, node);
+        self.acting.set(node, acts);
+    }
+
+    /// A message from a node, to another, waits behind those that wait there. Where memory runs out nothing changes.
+    pub(crate) fn push(&mut self, from: NodeId, to: NodeId, msg: Msg) -> Result<(), NoMemory>
+        requires { from < length (inbox_of self.old.inboxes to) }
+        ensures ok { OnOk result (self.new ≡ record self.old { inboxes = with_message from to msg self.old.inboxes }) }
+        ensures err { OnErr result (self.new ≡ self.old) }
+    {
+        self.inboxes[to as usize].push(from, msg)?;
+        self.acting.insert(to);
+        Ok(())
+    }
+
+    /// Takes the first message from a node to another, where one waits.
+    pub(crate) fn pop(&mut self, from: NodeId, to: NodeId) -> Option<Msg>
+        ensures message { result ≡ first_of (queue_in self.old.inboxes from to) }
+        ensures rest { self.new ≡ record self.old { inboxes = with_rest from to (rest_of (queue_in self.old.inboxes from to)) self.old.inboxes } }
+    {
+        let msg = self.inboxes.get_mut(to as usize)?.pop(from);
+        let acts = can_act(&self.inboxes, &self.steps, to);
+        self.acting.set(to, acts);
+        msg
+    }
+
+    /// Whether a message from a node to another waits.
+    pub(crate) fn has(&self, from: NodeId, to: NodeId) -> bool
+        ensures { result ≡ not (is_empty (queue_in self.now.inboxes from to)) }
+    {
+        match self.inboxes.get(to as usize) {
+            Some(inbox) => inbox.has(from),
+            None => false,
+        }
+    }
+
+    /// The nodes that can act, in ascending order.
+    pub(crate) fn acting(&self) -> &[NodeId]
+        ensures { result.now ≡ acting_in self.now }
+    {
+        self.acting.as_slice()
+    }
+
+    /// The senders from whom a message waits for a node, in ascending order.
+    pub(crate) fn senders(&self, node: NodeId) -> &[NodeId]
+        ensures { result.now ≡ senders_in (inbox_of self.now.inboxes node) }
+    {
+        match self.inboxes.get(node as usize) {
+            Some(inbox) => inbox.senders(),
+            None => &[],
+        }
+    }
+}
+
+/// Notes whether a node, where it is one of them, can step.
+fn note_step(steps: &mut Vec<bool>, node: NodeId, can: bool)
+    ensures { steps.new.items ≡ slice_set steps.old.items node can }
+{
+    if let Some(step) = steps.get_mut(node as usize) {
+        *step = can;
+    }
+}
+
+/// Whether a node is noted as one that can step.
+fn can_step(steps: &Vec<bool>, node: NodeId) -> bool
+    ensures { result ≡ slice_index_or steps.now.items node false }
+{
+    match steps.get(node as usize) {
+        Some(step) => *step,
+        None => false,
+    }
+}
+
+/// Whether a message waits for a node.
+fn is_awaited(inboxes: &Vec<Inbox>, node: NodeId) -> bool
+    ensures { result ≡ not (is_empty (senders_in (inbox_of inboxes.now.items node))) }
+{
+    match inboxes.get(node as usize) {
+        Some(inbox) => !inbox.senders().is_empty(),
+        None => false,
+    }
+}
+
+/// Whether a node can act: it can step, or a message waits for it.
+fn can_act(inboxes: &Vec<Inbox>, steps: &Vec<bool>, node: NodeId) -> bool
+    ensures { result ≡ can_act_in (record { inboxes = inboxes.now.items; steps = steps.now.items }) node }
+{
+    can_step(steps, node) || is_awaited(inboxes, node)
+}

@@ -1,0 +1,7 @@
+-- The pieces of the line, and the digits of the address.
+use Rattle.std.proofs.Common.{append_assoc}
+use Rattle.stats_report.proofs.HexLemmas.{hex_padded}
+use Rattle.stats_report.proofs.lines.trap_line.Goals as goal
+
+pub returns : goal.returns
+returns c = simp append_assoc (rw (c.laid_out.ensures, c.in_radix.ensures, hex_padded c.args.pc) at c.in_ok-format.ensures.ok)
