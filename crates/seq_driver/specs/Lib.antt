@@ -1,0 +1,9 @@
+pub mod Picked
+pub mod Driven
+pub mod Inner
+pub use Rattle.node_machine.specs.Machine
+pub use Rattle.node_machine.specs.Core
+pub use Rattle.node_machine.specs.End
+pub use Rattle.event_journal.specs.Run
+pub use Rattle.event_journal.specs.State
+pub use Rattle.event_journal.specs.Choice

@@ -1,0 +1,84 @@
+ghost use Rattle.std.specs.Prelude.{◌≡◌, false};
+ghost use Rattle.seq_driver.specs.Picked.{start_stream, next_word, after_word, after_draw, picked};
+ghost use Rattle.seq_driver.specs.Inner.{choices_in, drawn_in};
+
+use event_journal::Event;
+use node_machine::Core;
+use rand_core::utils::NextWord;
+use rand_pcg::Lcg64Xsh32;
+use sim_base::NodeId;
+use std::marker::Model;
+
+/// The stream of random words by which a run's events are drawn: PCG's XSH RR generator on 64 bits, stream 0.
+#[derive(Drop)]
+pub(crate) struct Stream {
+    generator: Lcg64Xsh32,
+}
+
+impl Model for Stream {
+    ghost use Rattle.rand_pcg.specs.Lcg.{Lcg};
+
+    ghost Value = { Lcg };
+
+    ghost view = { λ s. s.generator };
+}
+
+impl Stream {
+    /// The stream of a seed, before its first word.
+    #[tactic(auto, unfolding(crate::specs::Picked::start_stream))]
+    pub(crate) fn new(seed: u64) -> Stream
+        ensures { result ≡ start_stream seed }
+    {
+        Stream {
+            generator: Lcg64Xsh32::new(seed, 0),
+        }
+    }
+
+    /// Its next word.
+    #[tactic(auto, unfolding(crate::specs::Picked::next_word, crate::specs::Picked::after_word))]
+    pub(crate) fn next(&mut self) -> u32
+        ensures word { result ≡ next_word self.old }
+        ensures after { self.new ≡ after_word self.old }
+    {
+        self.generator.next_word()
+    }
+}
+
+/// The event that the stream's next two words pick, if some node can act.
+pub(crate) fn drawn_event(core: &Core, stream: &mut Stream) -> Option<Event>
+    requires { core.now.spent ≡ false }
+    ensures event { result ≡ drawn_in core.now stream.old }
+    ensures after { stream.new ≡ after_draw stream.old }
+{
+    let first = stream.next();
+    let second = stream.next();
+    let node = picked(core.acting(), first)?;
+    choice(node, core.can_step(node), core.senders(node), second)
+}
+
+/// The node that a word picks of these: the one at the word modulo their number.
+fn picked(nodes: &[NodeId], word: u32) -> Option<NodeId>
+    ensures { result ≡ picked nodes.now word }
+{
+    if nodes.is_empty() {
+        return None;
+    }
+    Some(nodes[word as usize % nodes.len()])
+}
+
+/// The event that a word picks of what a node can do: its step, if it can step, and deliveries from these senders.
+fn choice(node: NodeId, can_step: bool, senders: &[NodeId], word: u32) -> Option<Event>
+    ensures { result ≡ picked (choices_in can_step node senders.now) word }
+{
+    let steps = if can_step { 1 } else { 0 };
+    let count = steps + senders.len();
+    if count == 0 {
+        return None;
+    }
+    let place = word as usize % count;
+    if place < steps {
+        return Some(Event::Step { node });
+    }
+    let from = senders[place - steps];
+    Some(Event::Deliver { from, node })
+}
