@@ -9,6 +9,3 @@ mod probes;
 pub use epochs::Epochs;
 pub use members::Member;
 pub use probes::{Probes, may_go};
-
-#[cfg(test)]
-mod tests;

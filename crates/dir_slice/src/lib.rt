@@ -15,6 +15,3 @@ pub use directory::Dir;
 pub use laws::{
     fresh_is_orderly, keeps_orderly, one_line_changes, starts_as_the_image, stays_orderly,
 };
-
-#[cfg(test)]
-mod tests;

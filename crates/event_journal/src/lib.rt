@@ -11,6 +11,3 @@ pub use laws::{
     counts_events, runs_have_prefixes, runs_join, runs_split, runs_stay_within, states_join,
 };
 pub use machine::Machine;
-
-#[cfg(test)]
-mod tests;

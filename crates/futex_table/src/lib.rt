@@ -6,6 +6,3 @@ mod futexes;
 
 pub use futexes::Futexes;
 pub use serving::Waiter;
-
-#[cfg(test)]
-mod tests;

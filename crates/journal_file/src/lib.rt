@@ -11,6 +11,3 @@ pub use laws::{has_one_reading, read_is_written, written_is_read};
 pub use reading::{MOST_BYTES, read_journal};
 pub use refusal::JournalRefusal;
 pub use writing::write_journal;
-
-#[cfg(test)]
-mod tests;

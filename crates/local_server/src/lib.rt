@@ -5,6 +5,3 @@
 mod local;
 
 pub use local::Local;
-
-#[cfg(test)]
-mod tests;

@@ -7,6 +7,3 @@ mod distances;
 
 pub use costs::{cost, dearest, delay};
 pub use distances::{diameter, hops};
-
-#[cfg(test)]
-mod tests;

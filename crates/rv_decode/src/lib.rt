@@ -5,8 +5,6 @@
 mod decoder;
 mod fields;
 mod instr;
-#[cfg(test)]
-mod tests;
 
 pub use decoder::decode;
 pub use instr::{Instr, Op};

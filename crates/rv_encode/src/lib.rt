@@ -7,6 +7,3 @@ mod encoder;
 mod fields;
 
 pub use encoder::{decodes_once, encode};
-
-#[cfg(test)]
-mod tests;

@@ -18,6 +18,3 @@ pub use classes::class;
 pub use effects::effect;
 pub use meaning::Meaning;
 pub use registers::Regs;
-
-#[cfg(test)]
-mod tests;

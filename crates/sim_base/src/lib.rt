@@ -23,6 +23,3 @@ pub use lines::{Line, LineData};
 pub use memory::NoMemory;
 pub use settings::{Config, Field};
 pub use words::Text;
-
-#[cfg(test)]
-mod tests;

@@ -6,6 +6,3 @@ mod threads;
 
 pub use serving::{Fate, Join};
 pub use threads::Threads;
-
-#[cfg(test)]
-mod tests;

@@ -10,6 +10,3 @@ mod ways;
 pub use cache::Cache;
 pub use laws::{answers_tell, changes_keep, changes_show, victims_are_held};
 pub use ways::{Hold, Way};
-
-#[cfg(test)]
-mod tests;

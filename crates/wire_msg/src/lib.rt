@@ -12,6 +12,3 @@ pub use calls::Call;
 pub use envelopes::{Envelope, Out};
 pub use messages::Msg;
 pub use sim_base::{Bytes, Line, LineData, NodeId};
-
-#[cfg(test)]
-mod tests;

@@ -1,4 +1,4 @@
-use crate::{Epochs, Probes, may_go};
+use clock_policy::{Epochs, Probes, may_go};
 use sim_base::{Config, NodeId};
 use std::alloc::Global;
 use std::test::Fail;

@@ -1,6 +1,6 @@
-use crate::{Fate, Join, Threads};
 use std::alloc::Global;
 use std::test::Fail;
+use thread_table::{Fate, Join, Threads};
 
 /// Threads 0 to 3, of which 3 has exited with 7.
 fn four_threads(alloc: Global) -> Result<Threads, Fail> {

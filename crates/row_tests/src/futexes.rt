@@ -1,4 +1,4 @@
-use crate::Futexes;
+use futex_table::Futexes;
 use std::alloc::Global;
 use std::test::Fail;
 

@@ -1,4 +1,4 @@
-use crate::{cost, dearest, delay, diameter, hops};
+use mesh_model::{cost, dearest, delay, diameter, hops};
 use sim_base::{Config, CostClass, NodeId};
 
 /// The default settings with other numbers of tiles and hosts.

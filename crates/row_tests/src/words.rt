@@ -1,7 +1,7 @@
 //! The words are what LLVM's assembler (`llvm-mc -triple=riscv64 -mattr=+m,+a`) writes for the line beside each. Every
 //! instruction's words stand in the cases of `instruction_cases`.
 
-use crate::{Instr, Op, decode};
+use rv_decode::{Instr, Op, decode};
 
 #[test]
 fn words_by_form(rt: HostRuntime) {

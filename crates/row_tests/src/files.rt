@@ -1,5 +1,5 @@
-use crate::{JournalRefusal, read_journal, write_journal};
 use event_journal::{Event, Journal};
+use journal_file::{JournalRefusal, read_journal, write_journal};
 use sim_base::NoMemory;
 use std::alloc::Global;
 

@@ -1,4 +1,4 @@
-use crate::{Config, Field, LineData, NodeId};
+use sim_base::{Config, Field, LineData, NodeId};
 
 /// The default settings with another machine.
 fn machine(tiles: u32, hosts: u32, sets: u32, ways: u32) -> Config {

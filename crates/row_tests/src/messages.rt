@@ -1,9 +1,9 @@
 ghost use Rattle.sim_base.specs.Settings.{IsChecked};
 
-use crate::{Bytes, Call, LineData, Msg};
 use sim_base::{Cause, Config, NodeId};
 use std::alloc::Global;
 use std::test::Fail;
+use wire_msg::{Bytes, Call, LineData, Msg};
 
 /// Pairs of nodes, each with its letter, where tiles 0 to 3 go round two hosts. Node 4 is the control server, nodes 5
 /// and 6 are the local servers, and no node has number 7.

@@ -1,8 +1,8 @@
 //! Words that LLVM's assembler (`llvm-mc -triple=riscv64 -mattr=+m,+a`) writes for the line beside each: a decoded word
 //! is encoded as itself. Every instruction's words stand in the cases of `instruction_cases`.
 
-use crate::encode;
 use rv_decode::decode;
+use rv_encode::encode;
 
 #[test]
 fn a_decoded_word_is_encoded_as_itself(rt: HostRuntime) {

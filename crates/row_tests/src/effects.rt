@@ -1,8 +1,8 @@
 //! Worked examples. The words are what an assembler makes of the text beside them, and the values follow from the
 //! RISC-V ISA manual. Every instruction's effects stand in the cases of `instruction_cases`.
 
-use super::*;
 use rv_decode::decode;
+use rv_exec::{Access, Meaning, Regs, class, effect, finish};
 use sim_base::{Cause, CostClass};
 
 /// What a word does at 0x1000, where x1 holds `a` and x2 holds `b`.

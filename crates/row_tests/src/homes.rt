@@ -1,6 +1,6 @@
 ghost use Rattle.std.specs.Prelude.{◌≡◌, IfOk};
 
-use crate::Dir;
+use dir_slice::Dir;
 use elf_image::{World, read_image};
 use sim_base::{Config, LineData, NoMemory, NodeId};
 use std::alloc::Global;

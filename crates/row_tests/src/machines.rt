@@ -1,6 +1,6 @@
 ghost use Rattle.std.specs.Prelude.{◌≡◌, ◌≤◌, ◌-◌, ◌∷◌, [], ℕ, true, false, IfOk, OnOk};
 
-use crate::Machine;
+use event_journal::Machine;
 use sim_base::{NoMemory, NodeId};
 use std::alloc::Global;
 

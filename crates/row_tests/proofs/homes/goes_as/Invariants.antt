@@ -1,5 +1,5 @@
 use Rattle.std.proofs.Common.{◌≡◌}
-use Rattle.dir_slice.proofs.tests.goes_as.Given as goal
+use Rattle.row_tests.proofs.homes.goes_as.Given as goal
 
 -- it is the same slice
 abbrev pub invariant-loop-told : goal.invariant-loop-told

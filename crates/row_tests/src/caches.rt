@@ -1,8 +1,8 @@
 ghost use Rattle.std.specs.Prelude.{◌≤◌};
 
-use crate::{Cache, Hold};
 use sim_base::{Line, LineData};
 use std::test::Fail;
+use tile_cache::{Cache, Hold};
 
 /// A call of a cache.
 #[derive(Clone, Copy)]
