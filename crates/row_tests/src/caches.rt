@@ -90,13 +90,43 @@ fn write(cache: &mut Cache, offset: u8, size: u8, value: u64) -> bool {
     is_allowed
 }
 
+/// Whether the calls of a cache with one set make the lines of the rows the next that leave.
+fn leave_in_order(cache: &mut Cache) -> bool {
+    let mut is_right = true;
+    for &(call, victim) in &ONE_SET {
+        is_right = is_right && make(cache, call) && cache.victim(9) == victim;
+    }
+    is_right
+}
+
+/// How lines 3, 4 and 7 are held.
+fn holds(cache: &Cache) -> (Option<Hold>, Option<Hold>, Option<Hold>) {
+    (cache.find(3), cache.find(4), cache.find(7))
+}
+
+/// Whether the lines are held as the rows say.
+fn are_held(cache: &mut Cache) -> bool {
+    let mut is_right = true;
+    for &(call, of_3, of_4, of_7) in &THREE_SETS {
+        is_right = is_right && make(cache, call) && holds(cache) == (of_3, of_4, of_7);
+    }
+    is_right
+}
+
+/// Whether line 5 has the numbers of the rows, one write after another.
+fn are_written(cache: &mut Cache) -> bool {
+    let mut is_right = true;
+    for &(offset, size, value, number) in &WRITES {
+        let is_made = write(cache, offset, size, value);
+        is_right = is_right && is_made && number_at(cache, 8) == Some(number);
+    }
+    is_right
+}
+
 #[test]
 fn the_least_recent_of_four_has_to_leave(rt: HostRuntime) -> Result<(), Fail> {
     let mut cache = Cache::new(rt.alloc(), 1, 4)?;
-    let mut is_right = true;
-    for &(call, victim) in &ONE_SET {
-        is_right = is_right && make(&mut cache, call) && cache.victim(9) == victim;
-    }
+    let is_right = leave_in_order(&mut cache);
     assert!(rt; is_right && cache.victim(4).is_none());
     Ok(())
 }
@@ -104,14 +134,10 @@ fn the_least_recent_of_four_has_to_leave(rt: HostRuntime) -> Result<(), Fail> {
 #[test]
 fn lines_lie_in_their_own_sets(rt: HostRuntime) -> Result<(), Fail> {
     let mut cache = Cache::new(rt.alloc(), 3, 1)?;
-    let mut is_right = true;
-    for &(call, of_3, of_4, of_7) in &THREE_SETS {
-        let is_made = make(&mut cache, call);
-        let is_held = cache.find(3) == of_3 && cache.find(4) == of_4 && cache.find(7) == of_7;
-        is_right = is_right && is_made && is_held;
-    }
-    let is_full = cache.victim(6) == Some((3, Hold::S)) && cache.victim(4) == Some((7, Hold::M));
-    assert!(rt; is_right && is_full && cache.victim(5).is_none());
+    let are_held = are_held(&mut cache);
+    let victims = [cache.victim(6), cache.victim(4), cache.victim(5)];
+    let are_full = victims == [Some((3, Hold::S)), Some((7, Hold::M)), None];
+    assert!(rt; are_held && are_full);
     Ok(())
 }
 
@@ -121,14 +147,9 @@ fn writes_are_little_endian_at_their_offset(rt: HostRuntime) -> Result<(), Fail>
     if cache.victim(5).is_none() {
         cache.place(5, Hold::M, LineData { bytes: [0x11; 64] });
     }
-    let mut is_right = true;
-    for &(offset, size, value, number) in &WRITES {
-        is_right = is_right
-            && write(&mut cache, offset, size, value)
-            && number_at(&cache, 8) == Some(number);
-    }
+    let are_written = are_written(&mut cache);
     let around = [number_at(&cache, 0), number_at(&cache, 16)];
     let is_there = around == [Some(0x1111_1111_1111_1111), Some(0x1111_1111_0000_0000)];
-    assert!(rt; is_right && is_there && cache.drop_line(5).is_some());
+    assert!(rt; are_written && is_there && cache.drop_line(5).is_some());
     Ok(())
 }

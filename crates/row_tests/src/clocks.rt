@@ -15,7 +15,36 @@ fn limits(alloc: Global, out: &Out) -> Result<Vec<(NodeId, u64)>, Fail> {
     Ok(told)
 }
 
-/// Threads 0 to 2 report one after another, and 2 once more, from another tile. The quantum is 1000 cycles.
+/// Reports of threads 0 to 2, each from a tile, with whom the limit is sent to then. The quantum is 1000 cycles.
+static REPORTS: [(u32, NodeId, &[(NodeId, u64)]); 4] = [
+    (2, 9, &[]),
+    (0, 3, &[]),
+    (2, 6, &[]), // once more, from another tile
+    (1, 4, &[(3, 2000), (4, 2000), (6, 2000)]),
+];
+
+/// The limits that are sent when a thread reports.
+fn told(
+    alloc: Global,
+    epochs: &mut Epochs,
+    thread: u32,
+    tile: NodeId,
+) -> Result<Vec<(NodeId, u64)>, Fail> {
+    let mut out = Vec::new(alloc);
+    epochs.reached(thread, tile);
+    epochs.advance(&mut out)?;
+    limits(alloc, &out)
+}
+
+/// Whether the limits go to those to whom the rows say.
+fn are_told(alloc: Global, epochs: &mut Epochs) -> Result<bool, Fail> {
+    let mut is_right = true;
+    for &(thread, tile, wanted) in &REPORTS {
+        is_right = is_right && told(alloc, epochs, thread, tile)?.as_slice() == wanted;
+    }
+    Ok(is_right)
+}
+
 #[test]
 fn the_epoch_rises_when_all_have_reached(rt: HostRuntime) -> Result<(), Fail> {
     let alloc = rt.alloc();
@@ -23,19 +52,9 @@ fn the_epoch_rises_when_all_have_reached(rt: HostRuntime) -> Result<(), Fail> {
     for thread in [2, 1, 2] {
         epochs.join(thread)?;
     }
-    let mut out = Vec::new(alloc);
-    let mut early = false;
-    for (thread, tile) in [(2, 9), (0, 3), (2, 6)] {
-        epochs.reached(thread, tile);
-        early |= epochs.advance(&mut out)?;
-    }
-    epochs.reached(1, 4);
     let first = epochs.limit();
-    let raised = epochs.advance(&mut out)?;
-    let told = limits(alloc, &out)?;
-    let are_told = told[..] == [(3, 2000), (4, 2000), (6, 2000)];
-    let is_wanted = first == 1000 && !early && raised && are_told && epochs.limit() == 2000;
-    assert!(rt; is_wanted);
+    let are_told = are_told(alloc, &mut epochs)?;
+    assert!(rt; first == 1000 && are_told && epochs.limit() == 2000);
     Ok(())
 }
 

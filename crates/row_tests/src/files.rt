@@ -42,27 +42,34 @@ fn six_events_have_their_file(rt: HostRuntime) {
     assert!(rt; is_written, "the 28 bytes");
 }
 
+/// The place at which the file, changed so, is refused. A file that is read as other events has the last place of all.
+fn refused_at(alloc: Global, at: usize, byte: u8, len: usize) -> Option<u64> {
+    match reads(alloc, at, byte, len) {
+        Ok(true) => None,
+        Err(JournalRefusal::Byte { at }) => Some(at),
+        _ => Some(u64::MAX),
+    }
+}
+
+/// Files, by the byte that is changed in this one and how long they are, with the place at which they are refused.
+static ROWS: [(&str, usize, u8, usize, Option<u64>); 11] = [
+    ("the file", 0, 0x54, 28, None),
+    ("its first 27 bytes", 0, 0x54, 27, Some(27)),
+    ("a byte after the last event", 0, 0x54, 29, Some(28)),
+    ("an event after those counted", 8, 5, 28, Some(26)),
+    ("fewer events than are counted", 8, 7, 28, Some(28)),
+    ("a count that passes 64 bits", 15, 0x80, 28, Some(28)),
+    ("nothing", 0, 0x54, 0, Some(0)),
+    ("a part of the eight bytes", 0, 0x54, 7, Some(7)),
+    ("a part of the count", 0, 0x54, 15, Some(15)),
+    ("another version", 7, 0x32, 28, Some(7)),
+    ("another third byte", 2, 0, 5, Some(2)),
+];
+
 #[test]
 fn a_file_is_read_or_refused_at_its_first_wrong_place(rt: HostRuntime) {
-    let rows = [
-        ("the file", 0, 0x54, 28, None),
-        ("its first 27 bytes", 0, 0x54, 27, Some(27)),
-        ("a byte after the last event", 0, 0x54, 29, Some(28)),
-        ("an event after those counted", 8, 5, 28, Some(26)),
-        ("fewer events than are counted", 8, 7, 28, Some(28)),
-        ("a count that passes 64 bits", 15, 0x80, 28, Some(28)),
-        ("nothing", 0, 0x54, 0, Some(0)),
-        ("a part of the eight bytes", 0, 0x54, 7, Some(7)),
-        ("a part of the count", 0, 0x54, 15, Some(15)),
-        ("another version", 7, 0x32, 28, Some(7)),
-        ("another third byte", 2, 0, 5, Some(2)),
-    ];
-    for (name, at, byte, len, refused) in rows {
-        let wanted = match refused {
-            Some(at) => Err(JournalRefusal::Byte { at }),
-            None => Ok(true),
-        };
-        let is_wanted = reads(rt.alloc(), at, byte, len) == wanted;
+    for &(name, at, byte, len, refused) in &ROWS {
+        let is_wanted = refused_at(rt.alloc(), at, byte, len) == refused;
         assert!(rt; is_wanted, "{name}");
     }
 }

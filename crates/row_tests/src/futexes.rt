@@ -18,16 +18,27 @@ fn four_parked(alloc: Global) -> Result<Futexes, Fail> {
     Ok(futexes)
 }
 
+/// Calls that wake threads, each with those that it wakes and how many are left parked.
+static WAKES: [(u64, u32, &[u32], u32); 3] = [
+    (WORD, 2, &[4, 7], 2),
+    (WORD, u32::MAX, &[2], 1),
+    (WORD, 1, &[], 1),
+];
+
+/// Whether the calls wake whom the rows say.
+fn are_woken(alloc: Global, futexes: &mut Futexes) -> Result<bool, Fail> {
+    let mut is_right = true;
+    for &(addr, count, wanted, left) in &WAKES {
+        let woken = futexes.wake(alloc, addr, count)?;
+        is_right = is_right && woken.as_slice() == wanted && futexes.parked() == left;
+    }
+    Ok(is_right)
+}
+
 #[test]
 fn the_longest_parked_are_woken(rt: HostRuntime) -> Result<(), Fail> {
-    let alloc = rt.alloc();
-    let mut futexes = four_parked(alloc)?;
-    let first = futexes.wake(alloc, WORD, 2)?;
-    let left = futexes.parked() == 2 && futexes.is_parked(2) && futexes.is_parked(5);
-    let rest = futexes.wake(alloc, WORD, u32::MAX)?;
-    let none = futexes.wake(alloc, WORD, 1)?;
-    let are_woken = first[..] == [4, 7] && rest[..] == [2] && none.is_empty();
-    let is_wanted = left && are_woken && futexes.parked() == 1;
-    assert!(rt; is_wanted);
+    let mut futexes = four_parked(rt.alloc())?;
+    let are_woken = are_woken(rt.alloc(), &mut futexes)?;
+    assert!(rt; are_woken && futexes.is_parked(5));
     Ok(())
 }

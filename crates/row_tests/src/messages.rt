@@ -109,6 +109,15 @@ fn letters(alloc: Global, msg: &Msg, config: &Config) -> Result<Vec<u8>, Fail>
     Ok(found)
 }
 
+/// Whether a message of a kind may go between these pairs alone.
+fn goes_between(alloc: Global, config: &Config, kind: usize, wanted: &str) -> Result<bool, Fail>
+    requires { IsChecked config.now }
+{
+    let msg = message(alloc, kind)?;
+    let found = letters(alloc, &msg, config)?;
+    Ok(found.as_slice() == wanted.as_bytes())
+}
+
 #[test]
 fn messages_go_between_these(rt: HostRuntime) -> Result<(), Fail> {
     let config = Config {
@@ -116,10 +125,8 @@ fn messages_go_between_these(rt: HostRuntime) -> Result<(), Fail> {
         ..Config::defaults()
     };
     let mut are_wanted = true;
-    for (kind, wanted) in ROUTES.iter().enumerate() {
-        let msg = message(rt.alloc(), kind)?;
-        are_wanted = are_wanted
-            && letters(rt.alloc(), &msg, &config)?.as_slice() == wanted.as_bytes();
+    for (kind, &wanted) in ROUTES.iter().enumerate() {
+        are_wanted = are_wanted && goes_between(rt.alloc(), &config, kind, wanted)?;
     }
     assert!(rt; are_wanted);
     Ok(())

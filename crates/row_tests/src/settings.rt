@@ -1,84 +1,105 @@
 use sim_base::{Config, Field, LineData, NodeId};
 
-/// The default settings with another machine.
-fn machine(tiles: u32, hosts: u32, sets: u32, ways: u32) -> Config {
-    Config {
-        tiles,
-        hosts,
-        sets,
-        ways,
-        ..Config::defaults()
+/// What is other than in the default settings.
+#[derive(Clone, Copy)]
+enum Changed {
+    Nothing,
+    /// Tiles, hosts, sets and ways.
+    Machine(u32, u32, u32, u32),
+    /// Bytes of a stack and of the heap.
+    Memory(u64, u64),
+    /// The costs of arithmetic, an atomic, a call and memory.
+    Costs(u64, u64, u64, u64),
+    /// Quantum, slack, interval and events, with the greatest seed.
+    Pace(u64, u64, u64, u32),
+}
+
+fn settings(changed: Changed) -> Config {
+    let given = Config::defaults();
+    match changed {
+        Changed::Nothing => given,
+        Changed::Machine(tiles, hosts, sets, ways) => {
+            Config {
+                tiles,
+                hosts,
+                sets,
+                ways,
+                ..given
+            }
+        }
+        Changed::Memory(stack_bytes, heap_bytes) => {
+            Config {
+                stack_bytes,
+                heap_bytes,
+                ..given
+            }
+        }
+        Changed::Costs(alu_cost, amo_cost, call_cost, memory_cost) => {
+            Config {
+                alu_cost,
+                amo_cost,
+                call_cost,
+                memory_cost,
+                ..given
+            }
+        }
+        Changed::Pace(quantum, slack, interval, events) => {
+            Config {
+                quantum,
+                slack,
+                interval,
+                events,
+                seed: 18_446_744_073_709_551_615,
+                ..given
+            }
+        }
     }
 }
 
-/// The default settings with another memory.
-fn memory(stack_bytes: u64, heap_bytes: u64) -> Config {
-    Config {
-        stack_bytes,
-        heap_bytes,
-        ..Config::defaults()
-    }
-}
-
-/// The default settings with other costs.
-fn costs(alu_cost: u64, amo_cost: u64, call_cost: u64, memory_cost: u64) -> Config {
-    Config {
-        alu_cost,
-        amo_cost,
-        call_cost,
-        memory_cost,
-        ..Config::defaults()
-    }
-}
-
-/// The default settings with another pace, and the greatest seed.
-fn pace(quantum: u64, slack: u64, interval: u64, events: u32) -> Config {
-    Config {
-        quantum,
-        slack,
-        interval,
-        events,
-        seed: 18_446_744_073_709_551_615,
-        ..Config::defaults()
-    }
-}
+/// Settings, each with the first that is out of its range.
+static RANGES: [(Changed, Option<Field>); 27] = [
+    (Changed::Nothing, None),
+    (Changed::Machine(1, 1, 1, 1), None),
+    (Changed::Machine(64, 8, 1024, 16), None),
+    (Changed::Machine(0, 1, 16, 4), Some(Field::Tiles)),
+    (Changed::Machine(65, 8, 16, 4), Some(Field::Tiles)),
+    (Changed::Machine(64, 9, 16, 4), Some(Field::Hosts)),
+    (Changed::Machine(4, 5, 0, 4), Some(Field::Hosts)),
+    (Changed::Machine(4, 1, 1025, 17), Some(Field::Sets)),
+    (Changed::Machine(4, 1, 16, 17), Some(Field::Ways)),
+    (Changed::Memory(4096, 0), None),
+    (Changed::Memory(1_048_576, 67_108_864), None),
+    (Changed::Memory(0, 1), Some(Field::StackBytes)),
+    (Changed::Memory(4097, 4096), Some(Field::StackBytes)),
+    (Changed::Memory(1_052_672, 4096), Some(Field::StackBytes)),
+    (Changed::Memory(4096, 67_112_960), Some(Field::HeapBytes)),
+    (Changed::Costs(1, 1, 0, 0), None),
+    (
+        Changed::Costs(1_000_000, 1_000_000, 1_000_000, 1_000_000),
+        None,
+    ),
+    (Changed::Costs(0, 0, 0, 0), Some(Field::AluCost)),
+    (
+        Changed::Costs(1, 1_000_001, 1_000_001, 0),
+        Some(Field::AmoCost),
+    ),
+    (Changed::Costs(1, 1, 1_000_001, 0), Some(Field::CallCost)),
+    (Changed::Costs(1, 1, 0, 1_000_001), Some(Field::MemoryCost)),
+    (Changed::Pace(1, 0, 1, 1), None),
+    (
+        Changed::Pace(1_000_000_000, 1_000_000_000, 1_000_000_000, 1_000_000),
+        None,
+    ),
+    (Changed::Pace(0, 0, 0, 0), Some(Field::Quantum)),
+    (Changed::Pace(1, 1_000_000_001, 0, 1), Some(Field::Slack)),
+    (Changed::Pace(1, 0, 1_000_000_001, 1), Some(Field::Interval)),
+    (Changed::Pace(1, 0, 1, 1_000_001), Some(Field::Events)),
+];
 
 #[test]
 fn the_first_setting_out_of_its_range_is_named(rt: HostRuntime) {
-    let rows = [
-        (Config::defaults(), None),
-        (machine(1, 1, 1, 1), None),
-        (machine(64, 8, 1024, 16), None),
-        (machine(0, 1, 16, 4), Some(Field::Tiles)),
-        (machine(65, 8, 16, 4), Some(Field::Tiles)),
-        (machine(64, 9, 16, 4), Some(Field::Hosts)),
-        (machine(4, 5, 0, 4), Some(Field::Hosts)),
-        (machine(4, 1, 1025, 17), Some(Field::Sets)),
-        (machine(4, 1, 16, 17), Some(Field::Ways)),
-        (memory(4096, 0), None),
-        (memory(1_048_576, 67_108_864), None),
-        (memory(0, 1), Some(Field::StackBytes)),
-        (memory(4097, 4096), Some(Field::StackBytes)),
-        (memory(1_052_672, 4096), Some(Field::StackBytes)),
-        (memory(4096, 67_112_960), Some(Field::HeapBytes)),
-        (costs(1, 1, 0, 0), None),
-        (costs(1_000_000, 1_000_000, 1_000_000, 1_000_000), None),
-        (costs(0, 0, 0, 0), Some(Field::AluCost)),
-        (costs(1, 1_000_001, 1_000_001, 0), Some(Field::AmoCost)),
-        (costs(1, 1, 1_000_001, 0), Some(Field::CallCost)),
-        (costs(1, 1, 0, 1_000_001), Some(Field::MemoryCost)),
-        (pace(1, 0, 1, 1), None),
-        (
-            pace(1_000_000_000, 1_000_000_000, 1_000_000_000, 1_000_000),
-            None,
-        ),
-        (pace(0, 0, 0, 0), Some(Field::Quantum)),
-        (pace(1, 1_000_000_001, 0, 1), Some(Field::Slack)),
-        (pace(1, 0, 1_000_000_001, 1), Some(Field::Interval)),
-        (pace(1, 0, 1, 1_000_001), Some(Field::Events)),
-    ];
-    for (config, field) in rows {
-        let is_named = config.check().err() == field;
+    for &(changed, field) in &RANGES {
+        let is_named = settings(changed).check().err() == field;
         assert!(rt; is_named, "{field:?}");
     }
 }
