@@ -1,5 +1,6 @@
 pub mod Picked
 pub mod Driven
+pub mod Replayed
 pub mod Inner
 pub use Rattle.node_machine.specs.Machine
 pub use Rattle.node_machine.specs.Core

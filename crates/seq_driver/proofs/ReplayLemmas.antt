@@ -1,0 +1,67 @@
+-- One more event of a journal was made, or it was refused, or all of them were made.
+use Rattle.std.proofs.Common.{◌≡◌, ℕ, ◌+◌, ◌<◌, ◌≤◌, suc, false, List, [], ◌∷◌, ◌++◌, length, take, get_or, refl, sym, ap, subst, ◌∙◌, add-one}
+use Rattle.std.specs.Prelude.{Option, Some, None}
+use Rattle.std.proofs.Math.Seq.{take-suc}
+use Rattle.std.proofs.lemmas.List.{take_all}
+use Rattle.std.proofs.lemmas.Option.{slice_get-get_or}
+use Rattle.sim_base.specs.declared.actions.Action.{Action}
+use Rattle.sim_base.specs.declared.ends.End.{End}
+use Rattle.sim_base.specs.Numbering.{node_count}
+use Rattle.elf_image.specs.Layout.{Setup}
+use Rattle.wire_msg.specs.declared.messages.Msg.{Msg}
+use Rattle.event_journal.specs.declared.events.Event.{Event}
+use Rattle.event_journal.specs.State.{State}
+use Rattle.event_journal.specs.Run.{can_happen}
+use Rattle.node_machine.specs.declared.nodes.Node.{Node}
+use Rattle.node_machine.specs.Machine.{rules}
+use Rattle.node_machine.specs.Core.{CoreData, Shows, IsCore, IsMade, end_in}
+use Rattle.node_machine.proofs.ShownLemmas.{shown_is_read}
+use Rattle.seq_driver.specs.Driven.{state_after, IsRan}
+use Rattle.seq_driver.specs.Replayed.{IsFirstRefused, IsUnfinished}
+use Rattle.seq_driver.specs.Inner.{IsUnderWay}
+use Rattle.seq_driver.proofs.DrawLemmas.{goes_on}
+
+one_more : (events : List Event) (index : ℕ) (d : Event) → index < length events
+    → take (index + 1) events ≡ take index events ++ get_or events index d ∷ []
+one_more events index d within = rw (add-one) (take-suc events index d within)
+
+module _ (w : Setup) (core : CoreData) (events : List Event) (index : ℕ) (under : IsUnderWay w core (take index events)) where
+  module _ (items : List Event) (d : Event) (same : items ≡ events) (within : index < length items) where
+    pub replay_goes_on : (new : CoreData) (action : Option Action) → IsCore w new → new.spent ≡ false
+        → ((s : State Node Msg) → Shows core s → IsMade w (get_or items index d) action core new s)
+        → IsUnderWay w new (take (index + 1) events)
+    replay_goes_on new action fits able made =
+        let within' : index < length events = subst (λ xs. index < length xs) same within in
+        let one : IsMade w (get_or events index d) action core new (state_after w (take index events)) =
+        subst (λ xs. IsMade w (get_or xs index d) action core new (state_after w (take index events))) same (made (state_after w (take index events)) under.shows) in
+        subst (IsUnderWay w new) (sym (one_more events index d within'))
+        (goes_on w core new (take index events) (get_or events index d) under fits able one.enabled one.shows)
+
+    pub first_refused : ((s : State Node Msg) → Shows core s → can_happen (rules w) (node_count w.config) s (get_or items index d) ≡ false)
+        → IsFirstRefused w events index
+    first_refused refused = record {
+      event = get_or events index d;
+      here = slice_get-get_or events index d (subst (λ xs. index < length xs) same within);
+      run = under.run;
+      refused = subst (λ xs. can_happen (rules w) (node_count w.config) (state_after w (take index events)) (get_or xs index d) ≡ false) same
+          (refused (state_after w (take index events)) under.shows);
+    }
+
+  module _ (all : length events ≤ index) where
+    all_made : IsUnderWay w core events
+    all_made = subst (IsUnderWay w core) (take_all index events all) under
+
+    pub replayed : (end : End) → end_in core ≡ Some end → IsRan w (record { journal = events; core = core; end = end })
+    replayed end is = record {
+      run = all_made.run;
+      fits = all_made.fits;
+      shows = all_made.shows;
+      end = sym (shown_is_read w core (state_after w events) all_made.fits all_made.shows).end ∙ is;
+    }
+
+    pub unfinished : (count : ℕ) → length events ≡ count → end_in core ≡ None → IsUnfinished w events count
+    unfinished count is none = record {
+      run = all_made.run;
+      no_end = sym (shown_is_read w core (state_after w events) all_made.fits all_made.shows).end ∙ none;
+      all = is;
+    }
