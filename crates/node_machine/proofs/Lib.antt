@@ -9,6 +9,6 @@ pub mod PendingLemmas
 mod TrappingWords
 mod TrappingTiles
 mod TrappingServers
-mod TrappingRuns
+pub mod TrappingRuns
 pub mod StepsLemmas
 pub mod MakeLemmas
