@@ -1,7 +1,9 @@
 ghost use Rattle.std.specs.Prelude.{◌≡◌, None, length, IfOk, ◌≤◌};
 
 use crate::printing::{Failed, Sink};
-use crate::reading::{FileAnswer, Files};
+use crate::reading::FileAnswer;
+use crate::whole_files::Files;
+use crate::writing::WriteAnswer;
 use std::io::{ErrorKind, Read, Write};
 use std::{fs, io, rt};
 
@@ -11,16 +13,20 @@ pub struct OsFiles<R> {
     system: R,
     /// How many faults of reading there were, the same for every name. It stops at 2^64 - 1.
     pub read_faults: u64,
+    /// How many faults of writing there were, the same for every name. It stops at 2^64 - 1.
+    pub write_faults: u64,
 }
 
 impl<R: rt::Files> OsFiles<R> {
     /// The files that the runtime reaches, with no faults yet. `R` may be a reference to it.
     pub fn new(system: R) -> OsFiles<R>
-        ensures { result.read_faults ≡ 0 }
+        ensures reads { result.read_faults ≡ 0 }
+        ensures writes { result.write_faults ≡ 0 }
     {
         OsFiles {
             system,
             read_faults: 0,
+            write_faults: 0,
         }
     }
 }
@@ -36,8 +42,25 @@ fn read_start<R: rt::Files>(
     fs::open(system, name)?.take(most).read_to_end(into)
 }
 
+/// Opens a file and empties it, or makes an empty one. By POSIX an `open` that fails makes and changes
+/// no file, so memory that runs out here leaves each name what it held.
+fn emptied<R: rt::Files>(system: &R, name: &str) -> Result<R::File, WriteAnswer> {
+    fs::create(system, name).map_err(|error| match error.kind() {
+        ErrorKind::OutOfMemory => WriteAnswer::NoMemory,
+        _ => WriteAnswer::Failed,
+    })
+}
+
+/// Writes a file from its start. Once it is emptied, memory that runs out is a failure like any other.
+fn write_whole<R: rt::Files>(system: &R, name: &str, bytes: &[u8]) -> Result<(), WriteAnswer> {
+    let mut file = emptied(system, name)?;
+    file.write_all(bytes).map_err(|_| WriteAnswer::Failed)
+}
+
 impl<R: rt::Files> Files for OsFiles<R> {
     ghost read_faults = { λ files _. files.read_faults };
+
+    ghost write_faults = { λ files _. files.write_faults };
 
     ghost holds = { λ _. None };
 
@@ -54,6 +77,14 @@ impl<R: rt::Files> Files for OsFiles<R> {
                 Err(FileAnswer::Failed)
             }
         }
+    }
+
+    fn write_all(&mut self, name: &str, bytes: &[u8]) -> Result<(), WriteAnswer> {
+        let answer = write_whole(&self.system, name, bytes);
+        if answer == Err(WriteAnswer::Failed) {
+            self.write_faults = self.write_faults.saturating_add(1);
+        }
+        answer
     }
 }
 
