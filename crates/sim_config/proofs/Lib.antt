@@ -1,0 +1,6 @@
+pub mod Cuts
+pub mod Names
+pub mod Numerals
+pub mod Requests
+pub mod Settings
+pub mod Walks

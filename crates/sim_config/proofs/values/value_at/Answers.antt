@@ -1,0 +1,11 @@
+-- What the map of a table finds at a key is the member's value.
+use Rattle.std.proofs.Common.{ap, ◌∙◌}
+use Rattle.toml.proofs.Views.{table_get}
+use Rattle.toml.specs.Data.{get_member}
+use Rattle.toml.specs.View.{table_view}
+use Rattle.sim_config.proofs.values.value_at.Goals as goal
+
+pub returns : goal.returns
+returns c =
+    table_get c.get.result c.key_of.result.now c.args.table.now.entries c.get.ensures.value
+    ∙ ap (λ key. get_member key (table_view c.args.table.now)) c.key_of.ensures

@@ -1,0 +1,6 @@
+pub mod Words
+pub mod SettingsFile
+pub mod Inner
+pub use Rattle.sim_base.specs.Settings
+pub use Rattle.toml.specs.Data
+pub use Rattle.toml.specs.Parse

@@ -1,0 +1,20 @@
+//! What a user gives: the words of the command line, and a settings file. Each is told exactly, or refused.
+#![tactic(auto)]
+
+mod faults;
+mod file;
+mod forms;
+mod keys;
+mod matching;
+mod numbers;
+mod rules;
+mod values;
+mod words;
+
+pub use faults::{ConfigFault, RequestFault};
+pub use file::{MOST_BYTES, config_of};
+pub use keys::key_of;
+pub use words::{Request, request_of};
+
+#[cfg(test)]
+mod tests;

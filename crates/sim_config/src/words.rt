@@ -1,0 +1,133 @@
+ghost use Rattle.std.specs.Prelude.{◌≡◌, option_and_then, codes, IfOk};
+ghost use Rattle.std.specs.Option.{ok_or};
+ghost use Rattle.clap.specs.Words.{first_value, found_of};
+ghost use Rattle.sim_config.specs.Words.{command_meaning, meaning, run_of, replay_of, run_form, replay_form, seed_of, values_in, TellsRequest};
+ghost use Rattle.sim_config.specs.Inner.{form_of, IsTakenByClap, TellsMatches};
+ghost use Rattle.sim_config.specs.declared.faults.RequestFault.TheVariants.{Usage};
+
+use crate::faults::RequestFault;
+use crate::forms::{Form, replay_form, run_form};
+use crate::matching::matches_of;
+use crate::numbers::number_of;
+use crate::rules::keeps_rules;
+use clap::ArgMatches;
+use sim_base::{NoMemory, Text};
+use std::alloc::Global;
+
+/// What the words of the command line ask for. Files are named by their paths.
+#[derive(Drop)]
+pub enum Request {
+    /// To run an image, under the settings of a file or the default ones, with a seed in place of the settings', and to
+    /// write the run's journal to a file.
+    Run {
+        image: Text,
+        config: Option<Text>,
+        seed: Option<u64>,
+        journal: Option<Text>,
+    },
+    /// To make the run of a journal's file again, under the same settings.
+    Replay {
+        image: Text,
+        journal: Text,
+        config: Option<Text>,
+        seed: Option<u64>,
+    },
+}
+
+/// The request that the words after the program's name mean. The first is the command:
+///
+/// - `run IMAGE [--config FILE] [--seed N] [--journal FILE]`
+/// - `replay IMAGE JOURNAL [--config FILE] [--seed N]`
+///
+/// An option stands anywhere after the command, at most once, with its value in the next word or as `--name=value`. No
+/// value is empty, and none begins with a dash but after `=`. A seed is decimal digits, without a sign or a zero in front
+/// but for `0` itself, at most 2^64 - 1. Any other words have no meaning, and the answer is `Usage`.
+pub fn request_of(alloc: Global, words: &[Text]) -> Result<Request, RequestFault>
+    ensures { TellsRequest result (meaning words.now) }
+{
+    match words {
+        [command, words @ ..] => command_request(alloc, command.as_str(), words),
+        [] => Err(RequestFault::Usage),
+    }
+}
+
+/// The request of a command with the words after it.
+fn command_request(alloc: Global, command: &str, words: &[Text]) -> Result<Request, RequestFault>
+    ensures { TellsRequest result (command_meaning command.now words.now) }
+{
+    if command == "run" {
+        run_request(alloc, words)
+    } else if command == "replay" {
+        replay_request(alloc, words)
+    } else {
+        Err(RequestFault::Usage)
+    }
+}
+
+/// The request of the words after `run`.
+fn run_request(alloc: Global, words: &[Text]) -> Result<Request, RequestFault>
+    ensures { TellsRequest result (option_and_then run_of (values_in run_form words.now)) }
+{
+    let matches = read(alloc, &run_form(), words)?;
+    let image = text_at(alloc, &matches, "image")?.ok_or(RequestFault::Usage)?;
+    let config = text_at(alloc, &matches, "config")?;
+    let seed = seed_at(&matches)?;
+    let journal = text_at(alloc, &matches, "journal")?;
+    Ok(Request::Run {
+        image,
+        config,
+        seed,
+        journal,
+    })
+}
+
+/// The request of the words after `replay`.
+fn replay_request(alloc: Global, words: &[Text]) -> Result<Request, RequestFault>
+    ensures { TellsRequest result (option_and_then replay_of (values_in replay_form words.now)) }
+{
+    let matches = read(alloc, &replay_form(), words)?;
+    let image = text_at(alloc, &matches, "image")?.ok_or(RequestFault::Usage)?;
+    let journal = text_at(alloc, &matches, "journal")?.ok_or(RequestFault::Usage)?;
+    let config = text_at(alloc, &matches, "config")?;
+    let seed = seed_at(&matches)?;
+    Ok(Request::Replay {
+        image,
+        journal,
+        config,
+        seed,
+    })
+}
+
+/// What the words after a command give, where they keep the rules of its form.
+fn read<'a>(alloc: Global, form: &Form, words: &'a [Text]) -> Result<ArgMatches<'a>, RequestFault>
+    requires { IsTakenByClap (form_of form.now) }
+    ensures { TellsMatches result (values_in (form_of form.now) words.now) }
+{
+    if !keeps_rules(form, words) {
+        return Err(RequestFault::Usage);
+    }
+    match matches_of(alloc, form, words) {
+        Ok(matches) => Ok(matches),
+        Err(_) => Err(RequestFault::NoMemory),
+    }
+}
+
+/// The value of a name, if the words give one.
+fn text_at(alloc: Global, matches: &ArgMatches<'_>, name: &str) -> Result<Option<Text>, NoMemory>
+    ensures { IfOk result (λ text. text ≡ first_value (found_of matches.now) name.now) }
+{
+    match matches.get_str(name) {
+        Some(word) => Ok(Some(Text::new(alloc, word)?)),
+        None => Ok(None),
+    }
+}
+
+/// The seed, if the words give one. A word that is no number has no meaning.
+fn seed_at(matches: &ArgMatches<'_>) -> Result<Option<u64>, RequestFault>
+    ensures { result ≡ ok_or (seed_of (first_value (found_of matches.now) (codes "seed"))) Usage }
+{
+    match matches.get_str("seed") {
+        Some(word) => Ok(Some(number_of(word).ok_or(RequestFault::Usage)?)),
+        None => Ok(None),
+    }
+}
