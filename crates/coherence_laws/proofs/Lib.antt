@@ -1,0 +1,16 @@
+pub mod Phases
+pub mod Moves
+pub mod Nodes
+pub mod Serve
+pub mod Take
+pub mod Acts
+pub mod View
+pub mod Coherent
+pub mod Mail
+pub mod Holds
+pub mod Tiles
+pub mod Servers
+pub mod Controls
+pub mod Events
+pub mod HolderLemmas
+pub mod Still

@@ -1,0 +1,5 @@
+pub mod Part
+pub mod Coherence
+pub mod Laws
+pub mod Holders
+pub mod Still
