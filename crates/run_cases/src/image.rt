@@ -20,6 +20,8 @@ pub enum Layout {
     /// What the usual linker writes: attributes, the segment of the code with a text, one with 4 bytes of data, and a
     /// mark for the stack.
     Linked,
+    /// The segment of the code, and one with zeros, which is read and written.
+    Data,
 }
 
 impl Layout {
@@ -29,6 +31,7 @@ impl Layout {
             "plain" => Ok(Layout::Plain),
             "text" => Ok(Layout::Text),
             "linked" => Ok(Layout::Linked),
+            "data" => Ok(Layout::Data),
             _ => Err(malformed(())),
         }
     }
@@ -67,6 +70,16 @@ const DATA_HEADER: Header = Header {
     memory_size: 4,
 };
 
+/// A segment of zeros at the same address.
+fn zeros_header(size: u64) -> Header {
+    Header {
+        offset: 0x164,
+        file_size: 0,
+        memory_size: size,
+        ..DATA_HEADER
+    }
+}
+
 /// The attributes that the usual linker writes, and its mark for the stack.
 const ATTRIBUTES: Header = Header {
     kind: 0x7000_0003,
@@ -92,6 +105,10 @@ pub fn file(alloc: Global, case: &Case) -> Result<Vec<u8>, AllocError> {
     match case.layout {
         Layout::Plain => add_headers(&mut file, &[code_header(case.flags, 0x164)])?,
         Layout::Text => add_headers(&mut file, &[code_header(case.flags, 0x190)])?,
+        Layout::Data => add_headers(
+            &mut file,
+            &[code_header(case.flags, 0x164), zeros_header(case.data)],
+        )?,
         Layout::Linked => add_headers(
             &mut file,
             &[
@@ -106,7 +123,7 @@ pub fn file(alloc: Global, case: &Case) -> Result<Vec<u8>, AllocError> {
     for word in &case.code {
         file.extend_from_slice(&word.to_le_bytes())?;
     }
-    if case.layout == Layout::Plain {
+    if case.layout == Layout::Plain || case.layout == Layout::Data {
         file.resize(0x164, 0)?;
     } else {
         file.resize(TEXT, 0)?;

@@ -21,6 +21,27 @@ pub fn read<R: rt::Files + Print>(rt: &R, alloc: Global, limit: usize) -> io::Re
     fs::remove_file(rt, "written")
 }
 
+/// Writes 5 bytes and then 2 to one name, reads them back, and writes where no file can be. Prints the answers, the bytes that
+/// were read, and the faults.
+pub fn write<R: rt::Files + Print>(rt: &R, alloc: Global) -> io::Result<()> {
+    let mut files = OsFiles::new(rt);
+    for (name, bytes) in [
+        ("written", "hello"),
+        ("written", "ho"),
+        ("absent/x", "ho"),
+        (".", "ho"),
+    ] {
+        let answer = files.write_all(name, bytes.as_bytes());
+        let faults = files.write_faults;
+        println!(rt; "{name}: {answer:?}, {faults} faults")?;
+    }
+    let mut into = Vec::new(alloc);
+    let answer = files.read_all("written", 9, &mut into);
+    let is_last = into.as_slice() == b"ho".as_slice();
+    println!(rt; "written: {answer:?}, {is_last}")?;
+    fs::remove_file(rt, "written")
+}
+
 /// Puts a piece on an output that takes so many bytes of each, or is closed.
 pub fn put(rt: &impl Print, takes: Option<usize>) -> io::Result<()> {
     let mut sink = OsSink::new(Pipe { takes });

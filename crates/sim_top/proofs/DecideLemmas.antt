@@ -1,71 +1,89 @@
--- What a file decides is what the input decides.
-use Rattle.std.proofs.Common.{◌≡◌, ℕ, ◌<◌, List, ◌++◌, length, true, refl, sym, ap, ◌∙◌, arith, length-append}
-use Rattle.std.specs.Prelude.{Option, Some, None, Result, Ok, Err, IfOk}
-use Rattle.std.proofs.lemmas.Bool.Decides.{nat_tests}
+-- What a request decides, and what is answered of it.
+use Rattle.std.proofs.Common.{◌≡◌, refl, sym, ap, subst, ◌∙◌, inl, inr}
+use Rattle.std.specs.Prelude.{Some, None, Result, Ok, Err, IfOk, take}
 use Rattle.sim_base.specs.declared.ends.End.{End}
 use Rattle.sim_base.specs.declared.ends.End.TheVariants.{Exit, Trap, Deadlock, Budget}
-use Rattle.sim_outside.specs.declared.reading.FileAnswer.{FileAnswer}
-use Rattle.sim_outside.specs.declared.reading.FileAnswer.TheVariants.{TooLong as FileTooLong}
-use Rattle.sim_outside.specs.Files.{ReadAll}
-use Rattle.sim_outside.specs.Told.{Contents, Holds, HoldsFront}
-use Rattle.elf_image.specs.Image.{Program, image_of, first_of, header_refusals, is_too_long}
-use Rattle.elf_image.specs.declared.refusal.ImageFault.{ImageFault}
-use Rattle.elf_image.specs.declared.refusal.ImageFault.TheVariants.{TooLong}
-use Rattle.flat_machine.specs.Run.{after}
-use Rattle.sim_top.specs.declared.outcomes.Decision.{Decision}
 use Rattle.sim_base.specs.declared.memory.NoMemory.{NoMemory}
-use Rattle.sim_top.specs.declared.outcomes.Outcome.TheVariants.{BadImage}
-use Rattle.sim_top.specs.Words.{image_name}
-use Rattle.sim_top.specs.Answer.{Input, IsImageFile, Decides, decided_by_file, decided_by_image, decided_by_end, machine, most_actions, refused}
-use Rattle.flat_machine.proofs.TrapLemmas.{trap_has_cause}
+use Rattle.sim_outside.specs.Told.{Contents}
+use Rattle.sim_base.specs.Numbering.{node_count}
+use Rattle.elf_image.specs.Layout.{Setup}
+use Rattle.event_journal.proofs.Runs.{run-take}
+use Rattle.node_machine.specs.Machine.{rules, start_state}
+use Rattle.coherence_laws.proofs.Events.{always_coherent}
+use Rattle.node_machine.specs.declared.cores.Ran.{Ran}
+use Rattle.node_machine.proofs.ShownLemmas.{shown_is_read}
+use Rattle.node_machine.proofs.TrappingRuns.{trap_has_cause}
+use Rattle.seq_driver.specs.Driven.{state_after, IsRan}
+use Rattle.stats_report.specs.Report.{core_text}
+use Rattle.stats_report.proofs.ShownText.{text-of_state}
+use Rattle.sim_config.specs.declared.words.Request.{Request}
+use Rattle.sim_config.specs.Words.{meaning}
+use Rattle.sim_top.specs.declared.outcomes.Decision.{Decision}
+use Rattle.sim_top.specs.declared.outcomes.Outcome.{Outcome}
+use Rattle.sim_top.specs.declared.outcomes.Outcome.TheVariants.{Usage}
+use Rattle.sim_top.specs.Asked.{written_name}
+use Rattle.sim_top.specs.Decided.{IsRunOf, IsEndedRun, HasNoRun, HasRun, Refuses, outcome_of}
+use Rattle.sim_top.specs.Answer.{Input, DecidesBy}
+use Rattle.sim_top.specs.Inner.{IsRanFor, IsOfRun, IsRefusal, IsDecided, file_of}
 
-module _ (i : Input) (name file : List ℕ) (is : IsImageFile i name file) where
-  by_end : (program : Program) (output : List ℕ) (ended : Option End) → image_of file ≡ Ok program → (after (machine program) most_actions).ended ≡ ended
-      → decided_by_file file ≡ decided_by_end output ended → Decides i (decided_by_end output ended).outcome (decided_by_end output ended).text
-  by_end program output None taken end e = (name, file, is, e)
-  by_end program output (Some (Exit code)) taken end e = (name, file, is, e)
-  by_end program output (Some (Trap thread cause pc)) taken end e =
-      let cause_is = trap_has_cause (machine program) most_actions thread cause pc end in
-      (name, file, is, record { program = program; is_program = taken; step = cause_is.0; early = cause_is.1; traps = cause_is.2 }, e)
-  by_end program output (Some Deadlock) taken end e = (name, file, is, e)
-  by_end program output (Some Budget) taken end e = (name, file, is, e)
+-- the end of a run
 
-  by_image : (r : Result Program ImageFault) → image_of file ≡ r → decided_by_file file ≡ decided_by_image r → Decides i (decided_by_image r).outcome (decided_by_image r).text
-  by_image (Ok program) taken e = by_end program (after (machine program) most_actions).output (after (machine program) most_actions).ended taken refl e
-  by_image (Err fault) taken e = (name, file, is, e)
+module _ (w : Setup) (ran : Ran) (is : IsRan w ran) where
+  run_of : (end : End) → ran.end ≡ end → IsRunOf w (outcome_of end) ran.journal (core_text ran.core end)
+  run_of end e = record {
+    run = is.run;
+    end = end;
+    ended = is.end ∙ ap Some e;
+    outcome_is = refl;
+    text_is = text-of_state shown_is_read w ran.core (state_after w ran.journal) end is.fits is.shows;
+  }
 
-  pub decides_file : (d : Decision) → d ≡ decided_by_file file → Decides i d.outcome d.text
-  decides_file d e = rw e (by_image (image_of file) refl refl)
+  ended_run : (end : End) → ran.end ≡ end → IsEndedRun w (outcome_of end) ran.journal (core_text ran.core end)
+  ended_run (Exit code) e = run_of (Exit code) e
+  ended_run (Trap thread cause pc) e = (run_of (Trap thread cause pc) e, trap_has_cause w ran.journal thread cause pc is.run (is.end ∙ ap Some e))
+  ended_run Deadlock e = run_of Deadlock e
+  ended_run Budget e = run_of Budget e
 
--- a file over the limit is refused
-pub too_long : (file : List ℕ) → 16777216 < length file → image_of file ≡ Err TooLong
-unfolding first_of header_refusals
-too_long file h = let t : is_too_long file ≡ true = grind (arith, nat_tests) in rw t refl
+has_run : (holds : Contents) (request : Request) (ran : Ran) → IsRanFor holds request ran → HasRun holds request (outcome_of ran.end) ran.journal (core_text ran.core ran.end)
+has_run holds request ran is = record {
+  w = is.w;
+  machine = is.machine;
+  asked = is.asked;
+  ended = ended_run is.w ran is.is_ran ran.end refl;
+  coherent = λ events line. always_coherent is.w (take events ran.journal) line is.checked
+      (run-take (rules is.w) (node_count is.w.config) (start_state is.w) ran.journal events is.is_ran.run);
+}
 
--- what a reading says that answers so
-pub read_too_long : (answer : Result (Unit {0}) FileAnswer) (contents : Contents) (name : List ℕ) (limit : ℕ) (bytes : List ℕ) (before now : List ℕ → ℕ)
-    (e : FileAnswer) → answer ≡ Err e → e ≡ FileTooLong → ReadAll answer contents name limit bytes before now
-    → (limit < length bytes) × HoldsFront contents name bytes × (now ≡ before)
-read_too_long answer contents name limit bytes before now e was is read = rw (was, is) at read
+-- decisions
 
--- a file of which a reading found more than the limit is such a file
-pub long_file : (contents : Contents) (name front : List ℕ) → 16777216 < length front → HoldsFront contents name front
-    → (file : List ℕ) × Holds contents name file × (16777216 < length file)
-long_file None name front long is = (front, tt, long)
-long_file (Some held) name front long (rest, is) = (front ++ rest, is, omega (arith, length-append front rest))
+pub decided_run : (i : Input) (request : Request) (ran : Ran) (r : Result Decision NoMemory) → meaning i.words ≡ Some request → i.faults_now ≡ i.faults_before
+    → IsRanFor i.holds request ran → IfOk r (IsOfRun request ran) → IfOk r (IsDecided i)
+decided_run i request ran (Ok d) meant well is of =
+    let run : HasRun i.holds request d.outcome d.journal d.text = rw (of.outcome, of.journal, of.text) (has_run i.holds request ran is) in
+    record {
+      name = written_name request;
+      decides = subst (λ m. DecidesBy i m d.outcome d.journal d.text (written_name request)) (sym meant) (inr (well, run, refl));
+      file = of.file ∙ ap (file_of (written_name request)) (sym of.journal);
+    }
+decided_run i request ran (Err e) meant well is of = tt
 
--- the answer of a call that decides by the file is the answer by the input
-pub decided : (i : Input) (name file : List ℕ) (r : Result Decision NoMemory) → IsImageFile i name file
-    → IfOk r (λ d. d ≡ decided_by_file file) → IfOk r (λ d. Decides i d.outcome d.text)
-decided i name file (Ok d) is h = decides_file i name file is d h
-decided i name file (Err e) is h = tt
+pub decided_unread : (i : Input) (r : Result Decision NoMemory) → meaning i.words ≡ None → i.faults_now ≡ i.faults_before
+    → IfOk r (IsRefusal Usage) → IfOk r (IsDecided i)
+decided_unread i (Ok d) meaningless well is = record {
+  name = None;
+  decides = subst (λ m. DecidesBy i m d.outcome d.journal d.text None) (sym meaningless) (well, is.outcome_is, is.no_run, refl);
+  file = is.no_file;
+}
+decided_unread i (Err e) meaningless well is = tt
 
--- and so is a refusal of a file that is too long, whatever more is in it than was read
-pub decided_too_long : (i : Input) (name front : List ℕ) (r : Result Decision NoMemory) → image_name i.words ≡ Some name → i.faults_now ≡ i.faults_before
-    → 16777216 < length front → HoldsFront i.holds name front
-    → IfOk r (λ d. d ≡ refused (BadImage TooLong)) → IfOk r (λ d. Decides i d.outcome d.text)
-decided_too_long i name front (Err e) named no_fault long is h = tt
-decided_too_long i name front (Ok d) named no_fault long is h =
-    let file = long_file i.holds name front long is in
-    let held : IsImageFile i name file.0 = record { named = named; told = file.1; no_fault = no_fault } in
-    decides_file i name file.0 held d (h ∙ ap decided_by_image (sym (too_long file.0 file.2)))
+pub decided_refused : (i : Input) (request : Request) (outcome : Outcome) (r : Result Decision NoMemory) → meaning i.words ≡ Some request
+    → Refuses i.holds i.faults_before i.faults_now request outcome → IfOk r (IsRefusal outcome) → IfOk r (IsDecided i)
+decided_refused i request outcome (Ok d) meant refuses is =
+    let refused : Refuses i.holds i.faults_before i.faults_now request d.outcome = subst (Refuses i.holds i.faults_before i.faults_now request) (sym is.outcome_is) refuses in
+    let no_run : HasNoRun d.outcome d.journal d.text = subst (λ o. HasNoRun o d.journal d.text) (sym is.outcome_is) is.no_run in
+    record {
+      name = None;
+      decides = subst (λ m. DecidesBy i m d.outcome d.journal d.text None) (sym meant) (inl (refused, no_run, refl));
+      file = is.no_file;
+    }
+decided_refused i request outcome (Err e) meant refuses is = tt

@@ -1,3 +1,5 @@
 pub mod TookLemmas
+pub mod StageLemmas
 pub mod DecideLemmas
-pub mod HexLemmas
+pub mod AnswerLemmas
+pub mod AbsentLemmas

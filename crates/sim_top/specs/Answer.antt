@@ -1,57 +1,16 @@
--- What a call of the simulator answers, by what it is given: the words, the file that they name, and a
+-- What a call of the simulator answers, by what it is given: the words, the files that they name, and a
 -- stream to print on.
-use Rattle.std.specs.Prelude.{◌≡◌, ◌<◌, ℕ, List, take, Option, Some, None, Result, Ok, Err}
-use Rattle.sim_base.specs.declared.ends.End.{End}
-use Rattle.sim_base.specs.declared.ends.End.TheVariants.{Exit, Trap}
-use Rattle.sim_base.specs.declared.ends.Cause.{Cause}
-use Rattle.sim_base.specs.declared.settings.Config.{Config}
-use Rattle.sim_base.specs.Settings.{default_settings}
+use Rattle.std.specs.Prelude.{◌≡◌, ◌⊎◌, ℕ, List, [], take, Option, Some, None}
 use Rattle.sim_outside.specs.Fault.{Rose}
-use Rattle.sim_outside.specs.Told.{Contents, Holds, Took}
-use Rattle.elf_image.specs.Image.{Program, image_of}
-use Rattle.elf_image.specs.declared.refusal.ImageFault.{ImageFault}
-use Rattle.elf_image.specs.Layout.{Setup}
-use Rattle.flat_machine.specs.State.{State}
-use Rattle.flat_machine.specs.Action.{IsTrapping}
-use Rattle.flat_machine.specs.Run.{after}
+use Rattle.sim_outside.specs.Told.{Contents, Took, Wrote, HoldsAllBut}
+use Rattle.event_journal.specs.declared.events.Event.{Event}
+use Rattle.journal_file.specs.File.{journal_bytes}
+use Rattle.sim_config.specs.declared.words.Request.{Request}
+use Rattle.sim_config.specs.Words.{meaning}
 use Rattle.sim_top.specs.declared.outcomes.Outcome.{Outcome}
-use Rattle.sim_top.specs.declared.outcomes.Outcome.TheVariants.{Done, Trap as TrapOutcome, Usage, BadImage, NotBuilt, ReadFault, WriteFault, NoMemory}
-use Rattle.sim_top.specs.declared.outcomes.Decision.{Decision}
-use Rattle.sim_top.specs.Words.{image_name}
-use Rattle.sim_top.specs.Text.{run_text, fault_text}
-
--- how many actions of the flat machine a program is given
-abbrev pub most_actions : ℕ
-most_actions = 1000000
-
--- an outcome with its fault line
-abbrev pub refused : Outcome → Decision
-refused outcome = record { outcome = outcome; text = fault_text outcome }
-
--- what the end of a run decides: an exit and a trap are reported with the output. Any other end, and none, isn't built yet
-abbrev pub decided_by_end : List ℕ → Option End → Decision
-decided_by_end output (Some (Exit code)) = record { outcome = Done code; text = run_text output (Exit code) }
-decided_by_end output (Some (Trap thread cause pc)) = record { outcome = TrapOutcome thread cause pc; text = run_text output (Trap thread cause pc) }
-decided_by_end output _ = refused NotBuilt
-
-abbrev pub decided_by_state : State → Decision
-decided_by_state s = decided_by_end s.output s.ended
-
--- the machine that a program runs on: it has the default settings, but for its one tile
-abbrev pub one_tile : Config
-one_tile = record default_settings { tiles = 1 }
-
-abbrev pub machine : Program → Setup
-machine program = record { image = program; config = one_tile }
-
--- what an image decides: the machine's only legal action is made again and again
-abbrev pub decided_by_image : Result Program ImageFault → Decision
-decided_by_image (Ok program) = decided_by_state (after (machine program) most_actions)
-decided_by_image (Err fault) = refused (BadImage fault)
-
--- what the bytes of a file decide
-abbrev pub decided_by_file : List ℕ → Decision
-decided_by_file bytes = decided_by_image (image_of bytes)
+use Rattle.sim_top.specs.declared.outcomes.Outcome.TheVariants.{Usage, ReadFault, WriteFault, NoMemory}
+use Rattle.sim_top.specs.Asked.{IsRead, written_name}
+use Rattle.sim_top.specs.Decided.{HasNoRun, Refuses, HasRun}
 
 -- the words, and the files by their names: the faults of reading before the call and now, and what the
 -- names hold where this is told
@@ -61,65 +20,67 @@ pub record Input : Type 0 where
   pub faults_now : List ℕ → ℕ
   pub holds : Contents
 
--- the stream: its faults before the call and now, and the bytes it took where this is told
+-- the stream: its faults before the call and now, and the bytes it took where this is told; and the files that are written:
+-- the faults of writing before the call and now, and what the names held and hold where this is told
 pub record Output : Type 0 where
   pub faults_before : ℕ
   pub faults_now : ℕ
   pub taken_before : Option (List ℕ)
   pub taken_now : Option (List ℕ)
+  pub write_faults_before : List ℕ → ℕ
+  pub write_faults_now : List ℕ → ℕ
+  pub held : Contents
+  pub holds : Contents
 
--- nothing is read: the words mean nothing, and no name had a fault of reading
-pub record IsUnread (i : Input) : Type 0 where
-  pub meaningless : image_name i.words ≡ None
-  pub no_fault : i.faults_now ≡ i.faults_before
+-- no name had a fault of reading
+abbrev pub ReadsWell : Input → Type 0
+ReadsWell i = i.faults_now ≡ i.faults_before
 
--- the words name this file, no name had a fault of reading, and where it is told what files hold, this one is there
--- and holds these bytes
-pub record IsImageFile (i : Input) (name file : List ℕ) : Type 0 where
-  pub named : image_name i.words ≡ Some name
-  pub told : Holds i.holds name file
-  pub no_fault : i.faults_now ≡ i.faults_before
+-- the outcome, the journal, the text, and the name that the journal is written to, if to any: the words mean nothing; or
+-- what they ask for is refused; or it is run
+abbrev pub DecidesBy : Input → Option Request → Outcome → List Event → List ℕ → Option (List ℕ) → Type 0
+DecidesBy i None outcome journal text name = ReadsWell i × (outcome ≡ Usage) × HasNoRun Usage journal text × (name ≡ None)
+DecidesBy i (Some request) outcome journal text name =
+    (Refuses i.holds i.faults_before i.faults_now request outcome × HasNoRun outcome journal text × (name ≡ None))
+    ⊎ (ReadsWell i × HasRun i.holds request outcome journal text × (name ≡ written_name request))
 
--- the words name this file, and reading it had one more fault
-pub record HadReadFault (i : Input) (name : List ℕ) : Type 0 where
-  pub named : image_name i.words ≡ Some name
-  pub rose : Rose (i.faults_before name) (i.faults_now name)
+-- what the input decides, by the meaning of its words
+abbrev pub Decides : Input → Outcome → List Event → List ℕ → Option (List ℕ) → Type 0
+Decides i outcome journal text name = DecidesBy i (meaning i.words) outcome journal text name
 
--- the file's program has come to a state in which this thread's instruction at this pc traps so
-pub record IsTrapped (file : List ℕ) (number : ℕ) (cause : Cause) (pc : ℕ) : Type 0 where
-  pub program : Program
-  pub is_program : image_of file ≡ Ok program
-  pub step : ℕ
-  pub early : step < most_actions
-  pub traps : IsTrapping (machine program) (after (machine program) step) number cause pc
-
--- the outcome and the text that the input decides, in order: the words, the file's reading, the image, the run. A fault
--- of reading, as that of a name that isn't there, is passed over by no other outcome
-abbrev pub Decides : Input → Outcome → List ℕ → Type 0
-Decides i Usage text = IsUnread i × (text ≡ fault_text Usage)
-Decides i ReadFault text = (name : List ℕ) × HadReadFault i name × (text ≡ fault_text ReadFault)
-Decides i WriteFault text = ⊥
-Decides i NoMemory text = ⊥
-Decides i (TrapOutcome number cause pc) text =
-    (name : List ℕ) × (file : List ℕ) × IsImageFile i name file × IsTrapped file number cause pc
-    × (decided_by_file file ≡ record { outcome = TrapOutcome number cause pc; text = text })
-Decides i outcome text =
-    (name : List ℕ) × (file : List ℕ) × IsImageFile i name file × (decided_by_file file ≡ record { outcome = outcome; text = text })
-
--- where the words name a file, and it is told that this one isn't there, the input decides a fault of reading alone
+-- where it is told that a file that is read isn't there, what was read before it being accepted, the input decides a fault
+-- of reading alone
 abbrev pub AbsentIsReadFault : Type 0
-AbsentIsReadFault = (i : Input) (held : List ℕ → Option (List ℕ)) (name : List ℕ) (outcome : Outcome) (text : List ℕ)
-    → i.holds ≡ Some held → image_name i.words ≡ Some name → held name ≡ None → Decides i outcome text → outcome ≡ ReadFault
+AbsentIsReadFault = (i : Input) (held : List ℕ → Option (List ℕ)) (request : Request) (absent : List ℕ)
+    (outcome : Outcome) (journal : List Event) (text : List ℕ) (name : Option (List ℕ))
+    → i.holds ≡ Some held → meaning i.words ≡ Some request → IsRead i.holds request absent → held absent ≡ None
+    → Decides i outcome journal text name → outcome ≡ ReadFault
 
--- the input decides some outcome and text, and the stream took the front of that text and had one more fault
-pub record TakesFront (i : Input) (o : Output) (outcome : Outcome) (text : List ℕ) (len : ℕ) : Type 0 where
-  pub decides : Decides i outcome text
+-- no file was changed, and no name had a fault of writing
+pub record HasWrittenNothing (o : Output) : Type 0 where
+  pub kept : o.holds ≡ o.held
+  pub no_fault : o.write_faults_now ≡ o.write_faults_before
+
+-- the journal was written to the name, where there is one, without a fault
+abbrev pub HasWritten : Output → Option (List ℕ) → List Event → Type 0
+HasWritten o None journal = HasWrittenNothing o
+HasWritten o (Some name) journal =
+    Wrote o.held o.holds name (journal_bytes journal) × (o.write_faults_now ≡ o.write_faults_before)
+
+-- writing to the name had one more fault, and each other name holds what it held
+pub record HadWriteFault (o : Output) (name : List ℕ) : Type 0 where
+  pub others : HoldsAllBut o.held o.holds name
+  pub rose : Rose (o.write_faults_before name) (o.write_faults_now name)
+
+-- the input decides this, and the stream took the front of the text and had one more fault
+pub record TakesFront (i : Input) (o : Output) (outcome : Outcome) (journal : List Event) (text : List ℕ) (name : Option (List ℕ)) (len : ℕ) : Type 0 where
+  pub decides : Decides i outcome journal text name
   pub took : Took o.taken_before o.taken_now (take len text)
   pub rose : Rose o.faults_before o.faults_now
 
--- the input decides this text, and the stream took all of it without a fault
-pub record TakesAll (i : Input) (o : Output) (outcome : Outcome) (text : List ℕ) : Type 0 where
-  pub decides : Decides i outcome text
+-- the input decides this, and the stream took all of the text without a fault
+pub record TakesAll (i : Input) (o : Output) (outcome : Outcome) (journal : List Event) (text : List ℕ) (name : Option (List ℕ)) : Type 0 where
+  pub decides : Decides i outcome journal text name
   pub took : Took o.taken_before o.taken_now text
   pub no_fault : o.faults_now ≡ o.faults_before
 
@@ -128,8 +89,20 @@ pub record IsUnused (o : Output) : Type 0 where
   pub took : o.taken_now ≡ o.taken_before
   pub no_fault : o.faults_now ≡ o.faults_before
 
--- what the call answers. Want of memory is free, and then nothing was put
-abbrev pub Answers : Input → Output → Outcome → Type 0
-Answers i o NoMemory = IsUnused o
-Answers i o WriteFault = (outcome : Outcome) × (text : List ℕ) × (len : ℕ) × TakesFront i o outcome text len
-Answers i o outcome = (text : List ℕ) × TakesAll i o outcome text
+-- memory ran out before the text was put, or in the writing of the journal after it
+abbrev pub LacksMemory : Input → Output → Type 0
+LacksMemory i o =
+    IsUnused o
+    ⊎ ((outcome : Outcome) × (journal : List Event) × (text : List ℕ) × (name : List ℕ) × TakesAll i o outcome journal text (Some name))
+
+-- the stream failed, and nothing was written; or the text was taken, and the writing of the journal failed
+abbrev pub FailsToWrite : Input → Output → List Event → Type 0
+FailsToWrite i o journal =
+    ((outcome : Outcome) × (text : List ℕ) × (name : Option (List ℕ)) × (len : ℕ) × TakesFront i o outcome journal text name len × HasWrittenNothing o)
+    ⊎ ((outcome : Outcome) × (text : List ℕ) × (name : List ℕ) × TakesAll i o outcome journal text (Some name) × HadWriteFault o name)
+
+-- what the call answers, with the journal that it returns. Want of memory is free
+abbrev pub Answers : Input → Output → Outcome → List Event → Type 0
+Answers i o NoMemory journal = LacksMemory i o × HasWrittenNothing o × (journal ≡ [])
+Answers i o WriteFault journal = FailsToWrite i o journal
+Answers i o outcome journal = (text : List ℕ) × (name : Option (List ℕ)) × TakesAll i o outcome journal text name × HasWritten o name journal

@@ -1,106 +1,190 @@
-ghost use Rattle.std.specs.Prelude.{◌≡◌, IfOk};
-ghost use Rattle.sim_top.specs.Answer.{Decides, decided_by_file, decided_by_image, decided_by_end, one_tile, refused};
+ghost use Rattle.std.specs.Prelude.{◌≡◌, ◌≤◌, IfOk};
 ghost use Rattle.sim_base.specs.Settings.{IsChecked};
+ghost use Rattle.journal_file.specs.File.{journal_bytes};
+ghost use Rattle.seq_driver.specs.Driven.{IsRan};
+ghost use Rattle.sim_top.specs.Asked.{HasSettings, HasMachine, written_name, with_seed};
+ghost use Rattle.sim_top.specs.Decided.{outcome_of};
+ghost use Rattle.sim_top.specs.Inner.{Stage, IsRanFor, IsDecided, IsOfRun, IsRefusal, Draws, Follows, file_of};
 
-use crate::outcomes::{Decision, Outcome};
-use crate::report::{fault_line, run_text};
-use crate::words::image_name;
-use elf_image::{FILE_LIMIT, Image, ImageFault, ImageRefusal, World, read_image};
-use flat_machine::run;
+use crate::asked::{config_name, image_name, seed_of, written_name};
+use crate::faults::fault_line;
+use crate::files::{image_in, journal_in, settings_in};
+use crate::outcomes::{Decision, Halt, JournalFault, JournalToWrite, Outcome};
+use elf_image::World;
+use event_journal::Journal;
+use journal_file::write_journal;
+use node_machine::Ran;
+use seq_driver::{DriveFault, ReplayFault, replay, run_alone};
 use sim_base::{Bytes, Config, End, NoMemory, Text};
-use sim_outside::{FileAnswer, Files};
+use sim_config::{Request, RequestFault, request_of};
+use sim_outside::Files;
+use stats_report::report;
 use std::alloc::Global;
 
-/// How many actions of the flat machine a program is given.
-const MOST_ACTIONS: u64 = 1_000_000;
-
-/// What the words and the file that they name decide: the words first, then the reading of the file,
-/// the image, and the run.
+/// What the words and the files that they name decide, in order: the words, the settings, the image, the journal that is
+/// replayed, and the run.
 pub(crate) fn decide<F: Files>(
     alloc: Global,
     words: &[Text],
     files: &mut F,
 ) -> Result<Decision, NoMemory>
-    ensures decision { IfOk result (λ d. Decides (record {
+    ensures decision { IfOk result (IsDecided (record {
       words = words.now;
       faults_before = F.read_faults files.old;
       faults_now = F.read_faults files.new;
       holds = F.holds files.old;
-    }) d.outcome d.text) }
+    })) }
     ensures kept { F.holds files.new ≡ F.holds files.old }
+    ensures writes { F.write_faults files.new ≡ F.write_faults files.old }
 {
-    let Some(name) = image_name(words) else {
-        return refuse(alloc, Outcome::Usage);
+    let request = match request_of(alloc, words) {
+        Ok(request) => request,
+        Err(RequestFault::Usage) => return refuse(alloc, Outcome::Usage),
+        Err(RequestFault::NoMemory) => return Err(NoMemory),
     };
-    let mut bytes = Vec::new(alloc);
-    let answer = files.read_all(name.as_str(), FILE_LIMIT, &mut bytes);
-    match answer {
-        Ok(()) => decide_file(alloc, bytes.as_slice()),
-        Err(FileAnswer::TooLong) => refuse(
-            alloc,
-            Outcome::BadImage {
-                fault: ImageFault::TooLong,
-            },
-        ),
-        Err(FileAnswer::Failed) => refuse(alloc, Outcome::ReadFault),
-        Err(FileAnswer::NoMemory) => Err(NoMemory),
+    match run(alloc, &request, files) {
+        Ok(ran) => decide_run(alloc, &request, ran),
+        Err(Halt::Refused { outcome }) => refuse(alloc, outcome),
+        Err(Halt::NoMemory) => Err(NoMemory),
     }
 }
 
-/// What the bytes of the image's file decide.
-fn decide_file(alloc: Global, bytes: &[u8]) -> Result<Decision, NoMemory>
-    ensures { IfOk result (λ d. d ≡ decided_by_file bytes.now) }
+/// The run that a request asks for, or why there is none.
+fn run<F: Files>(alloc: Global, request: &Request, files: &mut F) -> Result<Ran, Halt>
+    ensures stage { Stage (F.holds files.old) (F.read_faults files.old) (F.read_faults files.new) request.now
+        (IsRanFor (F.holds files.old) request.now) result }
+    ensures kept { F.holds files.new ≡ F.holds files.old }
+    ensures writes { F.write_faults files.new ≡ F.write_faults files.old }
 {
-    match read_image(alloc, bytes) {
-        Ok(image) => decide_image(alloc, image),
-        Err(ImageRefusal::Bad { fault }) => refuse(alloc, Outcome::BadImage { fault }),
-        Err(ImageRefusal::NoMemory) => Err(NoMemory),
-    }
-}
-
-/// What an image decides: it is run.
-fn decide_image(alloc: Global, image: Image) -> Result<Decision, NoMemory>
-    ensures { IfOk result (λ d. d ≡ decided_by_image (Ok image)) }
-{
-    let world = World::new(image, one_tile());
-    let flat = run(alloc, &world, MOST_ACTIONS)?;
-    decide_end(alloc, flat.output(), flat.ended())
-}
-
-/// What the end of a run decides, if it has one, with the program's output.
-fn decide_end(alloc: Global, output: &[u8], ended: Option<End>) -> Result<Decision, NoMemory>
-    ensures { IfOk result (λ d. d ≡ decided_by_end output.now ended) }
-{
-    match ended {
-        Some(End::Exit { code }) => {
-            let text = Bytes::from_vec(run_text(alloc, output, &End::Exit { code })?);
-            let outcome = Outcome::Done { code };
-            Ok(Decision { outcome, text })
+    let world = machine_of(alloc, request, files)?;
+    match request {
+        Request::Run { .. } => draw(alloc, &world),
+        Request::Replay { journal, .. } => {
+            let journal = journal_in(alloc, journal.as_str(), files)?;
+            follow(alloc, &world, journal)
         }
-        Some(End::Trap { thread, cause, pc }) => {
-            let text = Bytes::from_vec(run_text(alloc, output, &End::Trap { thread, cause, pc })?);
-            let outcome = Outcome::Trap { thread, cause, pc };
-            Ok(Decision { outcome, text })
-        }
-        Some(End::Deadlock | End::Budget) | None => refuse(alloc, Outcome::NotBuilt),
     }
 }
 
-/// The settings that programs run under: the default ones, but for one tile.
-fn one_tile() -> Config
-    ensures value { result ≡ one_tile }
+/// The machine of a request: its image under its settings.
+fn machine_of<F: Files>(alloc: Global, request: &Request, files: &mut F) -> Result<World, Halt>
+    ensures stage { Stage (F.holds files.old) (F.read_faults files.old) (F.read_faults files.new) request.now
+        (HasMachine (F.holds files.old) request.now) result }
+    ensures kept { F.holds files.new ≡ F.holds files.old }
+    ensures writes { F.write_faults files.new ≡ F.write_faults files.old }
+{
+    let config = settings_of(alloc, request, files)?;
+    let image = image_in(alloc, image_name(request).as_str(), files)?;
+    Ok(World::new(image, config))
+}
+
+/// The settings of a request: the default ones or those of its file, with its seed.
+fn settings_of<F: Files>(alloc: Global, request: &Request, files: &mut F) -> Result<Config, Halt>
+    ensures stage { Stage (F.holds files.old) (F.read_faults files.old) (F.read_faults files.new) request.now
+        (HasSettings (F.holds files.old) request.now) result }
+    ensures checked { IfOk result IsChecked }
+    ensures kept { F.holds files.new ≡ F.holds files.old }
+    ensures writes { F.write_faults files.new ≡ F.write_faults files.old }
+{
+    let accepted = match config_name(request) {
+        Some(name) => settings_in(alloc, name.as_str(), files)?,
+        None => Config::defaults(),
+    };
+    Ok(with_seed(accepted, seed_of(request)))
+}
+
+/// Settings with a seed in the place of theirs, if one is given.
+fn with_seed(config: Config, seed: Option<u64>) -> Config
+    requires { IsChecked config }
+    ensures config { result ≡ with_seed seed config }
     ensures checked { IsChecked result }
 {
-    Config {
-        tiles: 1,
-        ..Config::defaults()
+    match seed {
+        Some(seed) => Config { seed, ..config },
+        None => config,
     }
 }
 
-/// An outcome with its fault line.
+/// The run that the seed draws.
+fn draw(alloc: Global, world: &World) -> Result<Ran, Halt>
+    ensures { Draws world.now result }
+{
+    match run_alone(alloc, world) {
+        Ok(ran) => Ok(ran),
+        Err(DriveFault::Stuck) => Err(Halt::Refused {
+            outcome: Outcome::Stuck,
+        }),
+        Err(DriveFault::NoMemory) => Err(Halt::NoMemory),
+    }
+}
+
+/// The run that a journal tells.
+fn follow(alloc: Global, world: &World, journal: Journal) -> Result<Ran, Halt>
+    ensures { Follows world.now journal result }
+{
+    let fault = match replay(alloc, world, journal) {
+        Ok(ran) => return Ok(ran),
+        Err(ReplayFault::NotEnabled { index }) => JournalFault::Event { index },
+        Err(ReplayFault::Unfinished { count }) => JournalFault::Unfinished { count },
+        Err(ReplayFault::NoMemory) => return Err(Halt::NoMemory),
+    };
+    Err(Halt::Refused {
+        outcome: Outcome::BadJournal { fault },
+    })
+}
+
+/// What a run decides: its end, its report, and the file of its journal where one is asked for.
+fn decide_run(alloc: Global, request: &Request, ran: Ran) -> Result<Decision, NoMemory>
+    requires { ran.core.tiles ≤ 256 }
+    ensures { IfOk result (IsOfRun request.now ran) }
+{
+    let text = Bytes::from_vec(report(alloc, &ran.core, &ran.end)?);
+    let file = match written_name(request) {
+        Some(name) => Some(file_of(alloc, name, &ran.journal)?),
+        None => None,
+    };
+    Ok(Decision {
+        outcome: outcome_of(ran.end),
+        journal: ran.journal,
+        text,
+        file,
+    })
+}
+
+/// The file of a journal, to be written to a name.
+fn file_of(alloc: Global, name: &Text, journal: &Journal) -> Result<JournalToWrite, NoMemory>
+    ensures { IfOk result (λ file. (file.name ≡ name.now) × (file.bytes ≡ journal_bytes journal.now)) }
+{
+    Ok(JournalToWrite {
+        name: Text::new(alloc, name.as_str())?,
+        bytes: Bytes::from_vec(write_journal(alloc, journal)?),
+    })
+}
+
+/// The outcome of a run that ended so.
+fn outcome_of(end: End) -> Outcome
+    ensures { result ≡ outcome_of end }
+{
+    match end {
+        End::Exit { code } => Outcome::Done { code },
+        End::Trap { thread, cause, pc } => Outcome::Trap { thread, cause, pc },
+        End::Deadlock => Outcome::Deadlock,
+        End::Budget => Outcome::Budget,
+    }
+}
+
+/// An outcome with its fault line, and no run.
 fn refuse(alloc: Global, outcome: Outcome) -> Result<Decision, NoMemory>
-    ensures { IfOk result (λ d. d ≡ refused outcome) }
+    ensures { IfOk result (IsRefusal outcome) }
 {
     let text = Bytes::from_vec(fault_line(alloc, &outcome)?);
-    Ok(Decision { outcome, text })
+    let journal = Journal {
+        events: Vec::new(alloc),
+    };
+    Ok(Decision {
+        outcome,
+        journal,
+        text,
+        file: None,
+    })
 }

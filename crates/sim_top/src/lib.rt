@@ -1,14 +1,15 @@
-//! The top call: from the words of the command line to the text that is printed and the status of
-//! the process.
+//! The top call: from the words of the command line to the text that is printed, the journal that is written, and the status
+//! of the process.
 #![tactic(auto)]
 
+mod asked;
 mod decision;
+mod faults;
+mod files;
 mod outcomes;
 mod putting;
-mod report;
 mod top;
-mod words;
 
-pub use outcomes::{Decision, Finish, Outcome};
-pub use report::fault_line;
+pub use faults::fault_line;
+pub use outcomes::{Finish, JournalFault, Outcome};
 pub use top::{absent_is_read_fault, execute_alone};

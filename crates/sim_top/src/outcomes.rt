@@ -1,5 +1,9 @@
+ghost use Rattle.std.specs.Prelude.{◌≡◌};
+ghost use Rattle.sim_top.specs.declared.outcomes.Halt.TheVariants.{NoMemory as OutOfMemory};
+
 use elf_image::ImageFault;
-use sim_base::{Bytes, Cause};
+use event_journal::Journal;
+use sim_base::{Bytes, Cause, Field, NoMemory, Text};
 
 /// How a call of the simulator ended.
 #[derive(Clone, Copy, Debug, PartialEq, Eq)]
@@ -8,33 +12,81 @@ pub enum Outcome {
     Done { code: u8 },
     /// A thread's instruction at `pc` trapped.
     Trap { thread: u32, cause: Cause, pc: u64 },
+    /// Every live thread waits for another.
+    Deadlock,
+    /// Some node has made as many events as the settings allow.
+    Budget,
+    /// The run came to a state without an end in which no event is enabled.
+    Stuck,
     /// The words have no meaning.
     Usage,
+    /// The settings are refused.
+    BadConfig { field: Field },
     /// The image is refused.
     BadImage { fault: ImageFault },
-    /// The program made 1,000,000 actions without an end, or came to a state in which the machine hasn't exactly one
-    /// legal action of thread 0 (a store-conditional, a second thread). Neither is reported yet.
-    NotBuilt,
-    /// The image couldn't be read.
+    /// The journal is refused.
+    BadJournal { fault: JournalFault },
+    /// A file couldn't be read.
     ReadFault,
-    /// The text couldn't be put.
+    /// The text couldn't be put, or the journal couldn't be written.
     WriteFault,
     /// Memory ran out.
     NoMemory,
 }
 
-/// What a call of the simulator answers.
+/// Why a journal is refused. Bytes and events are counted from 0.
 #[derive(Clone, Copy, Debug, PartialEq, Eq)]
+pub enum JournalFault {
+    /// Its file has more than 300,000,000 bytes.
+    TooLong,
+    /// Its file is none at this place, the first such.
+    Byte { at: u64 },
+    /// This event isn't enabled after those before it, the first such.
+    Event { index: u64 },
+    /// All its events, of this number, are enabled, and the state after them has no end.
+    Unfinished { count: u64 },
+}
+
+/// What a call of the simulator answers.
+#[derive(Drop)]
 pub struct Finish {
     /// The exit status of the process.
     pub status: u8,
     /// How it ended.
     pub outcome: Outcome,
+    /// The events of the run. There are none where no run began, where it came to no end, and where memory ran out.
+    pub journal: Journal,
 }
 
-/// An outcome, and the text that is to be put.
+/// An outcome, with the journal of its run, the text that is to be put, and the file that is to be written after it.
 #[derive(Drop)]
-pub struct Decision {
+pub(crate) struct Decision {
     pub outcome: Outcome,
+    pub journal: Journal,
     pub text: Bytes,
+    pub file: Option<JournalToWrite>,
+}
+
+/// The file that a run's journal is written to.
+#[derive(Drop)]
+pub(crate) struct JournalToWrite {
+    pub name: Text,
+    pub bytes: Bytes,
+}
+
+/// Why a request comes to no end of a run.
+#[derive(Clone, Copy)]
+pub(crate) enum Halt {
+    /// It is refused, or its run gets stuck.
+    Refused { outcome: Outcome },
+    /// Memory ran out.
+    NoMemory,
+}
+
+impl From<NoMemory> for Halt {
+    ghost from_gives = { λ _ halt. halt ≡ OutOfMemory };
+
+    fn from(_error: NoMemory) -> Halt {
+        Halt::NoMemory
+    }
 }
