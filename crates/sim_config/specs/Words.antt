@@ -5,8 +5,10 @@ use Rattle.std.specs.List.{list_any, list_all, before_first, after_first}
 use Rattle.std.specs.Option.{option_map_or}
 use Rattle.std.specs.Str.{bytes_eq}
 use Rattle.std.specs.Str.Parse.{digits_value}
+use Rattle.sim_base.specs.declared.kinds.Kind.{Kind}
+use Rattle.sim_base.specs.declared.kinds.Kind.TheVariants.{Lock, Barrier, Pipeline, Reduce}
 use Rattle.sim_config.specs.declared.words.Request.{Request}
-use Rattle.sim_config.specs.declared.words.Request.TheVariants.{Run, Replay}
+use Rattle.sim_config.specs.declared.words.Request.TheVariants.{Run, Replay, Gen, Bench}
 use Rattle.sim_config.specs.declared.faults.RequestFault.{RequestFault}
 use Rattle.sim_config.specs.declared.faults.RequestFault.TheVariants.{Usage, NoMemory}
 
@@ -28,6 +30,12 @@ replay_form = record {
   positionals = codes "image" ∷ codes "journal" ∷ [];
   options = codes "config" ∷ codes "seed" ∷ [];
 }
+
+abbrev pub gen_form : CommandForm
+gen_form = record { positionals = codes "kind" ∷ codes "seed" ∷ codes "out" ∷ []; options = [] }
+
+abbrev pub bench_form : CommandForm
+bench_form = record { positionals = codes "seed" ∷ []; options = [] }
 
 -- Words by themselves
 
@@ -132,6 +140,14 @@ seed_of (Some word) = option_map (λ seed. Some seed) (number_of word)
 
 -- Requests
 
+-- the kind of workload of a name
+abbrev pub kind_of : List ℕ → Option Kind
+kind_of word =
+    if bytes_eq word (codes "lock") then Some Lock
+    else (if bytes_eq word (codes "barrier") then Some Barrier
+    else (if bytes_eq word (codes "pipeline") then Some Pipeline
+    else (if bytes_eq word (codes "reduce") then Some Reduce else None)))
+
 -- a run needs an image
 abbrev pub run_of : Given → Option Request
 run_of given =
@@ -146,11 +162,24 @@ replay_of given =
     Replay image journal (value_of (codes "config") given) seed)
     (seed_of (value_of (codes "seed") given))) (value_of (codes "journal") given)) (value_of (codes "image") given)
 
+-- a workload needs its kind, its seed, and the file to write
+abbrev pub gen_of : Given → Option Request
+gen_of given =
+    option_and_then (λ kind. option_and_then (λ seed. option_map (λ out.
+    Gen kind seed out)
+    (value_of (codes "out") given)) (option_and_then number_of (value_of (codes "seed") given))) (option_and_then kind_of (value_of (codes "kind") given))
+
+-- a benchmark needs its seed
+abbrev pub bench_of : Given → Option Request
+bench_of given = option_map (λ seed. Bench seed) (option_and_then number_of (value_of (codes "seed") given))
+
 -- the request of a command with the words after it
 abbrev pub command_meaning : List ℕ → List (List ℕ) → Option Request
 command_meaning command words =
     if bytes_eq command (codes "run") then option_and_then run_of (values_in run_form words)
-    else (if bytes_eq command (codes "replay") then option_and_then replay_of (values_in replay_form words) else None)
+    else (if bytes_eq command (codes "replay") then option_and_then replay_of (values_in replay_form words)
+    else (if bytes_eq command (codes "gen") then option_and_then gen_of (values_in gen_form words)
+    else (if bytes_eq command (codes "bench") then option_and_then bench_of (values_in bench_form words) else None)))
 
 -- the request that words mean, if they mean one: the first is the command
 abbrev pub meaning : List (List ℕ) → Option Request
