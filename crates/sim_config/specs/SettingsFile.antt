@@ -159,7 +159,7 @@ abbrev pub document : List ℕ → Option Members
 document bytes = if is_utf8 bytes then parse_document bytes else None
 
 -- what a file says: first its length, then its text
-abbrev pub settings : List ℕ → Result Config Field
+unfoldable pub settings : List ℕ → Result Config Field
 settings bytes = if nat_lt 65536 (length bytes) then Err field.Length else document_settings (document bytes)
 
 -- an answer tells what a file says, or that memory ran out

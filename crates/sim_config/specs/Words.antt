@@ -182,7 +182,7 @@ command_meaning command words =
     else (if bytes_eq command (codes "bench") then option_and_then bench_of (values_in bench_form words) else None)))
 
 -- the request that words mean, if they mean one: the first is the command
-abbrev pub meaning : List (List ℕ) → Option Request
+unfoldable pub meaning : List (List ℕ) → Option Request
 meaning [] = None
 meaning (command ∷ words) = command_meaning command words
 

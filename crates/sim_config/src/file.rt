@@ -18,6 +18,7 @@ pub const MOST_BYTES: usize = 65_536;
 /// first that applies, in the order of [`Field`]: the file is longer than 65,536 bytes; it is no UTF-8 or no TOML; a key
 /// at its top level is that of no setting; a setting's value isn't of its type (an integer within `u32` or `u64`, or a
 /// policy's name: `"lax"`, `"barrier"`, `"p2p"`) or is out of its range ([`Config::check`]).
+#[tactic(auto, unfolding(crate::specs::SettingsFile::settings))]
 pub fn config_of(alloc: Global, bytes: &[u8]) -> Result<Config, ConfigFault>
     ensures settings { TellsConfig result (settings bytes.now) }
     ensures checked { IfOk result IsChecked }

@@ -54,6 +54,7 @@ pub enum Request {
 /// An option stands anywhere after the command, at most once, with its value in the next word or as `--name=value`. No
 /// value is empty, and none begins with a dash but after `=`. A seed is decimal digits, without a sign or a zero in front
 /// but for `0` itself, at most 2^64 - 1. Any other words have no meaning, and the answer is `Usage`.
+#[tactic(auto, unfolding(crate::specs::Words::meaning))]
 pub fn request_of(alloc: Global, words: &[Text]) -> Result<Request, RequestFault>
     ensures { TellsRequest result (meaning words.now) }
 {
