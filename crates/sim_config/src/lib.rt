@@ -15,6 +15,3 @@ pub use faults::{ConfigFault, RequestFault};
 pub use file::{MOST_BYTES, config_of};
 pub use keys::key_of;
 pub use words::{Request, request_of};
-
-#[cfg(test)]
-mod tests;
