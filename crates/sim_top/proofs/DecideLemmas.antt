@@ -23,8 +23,8 @@ use Rattle.sim_top.specs.declared.outcomes.Outcome.{Outcome}
 use Rattle.sim_top.specs.declared.outcomes.Outcome.TheVariants.{Usage}
 use Rattle.sim_top.specs.Asked.{written_name}
 use Rattle.sim_top.specs.Decided.{IsRunOf, IsEndedRun, HasNoRun, HasRun, Refuses, outcome_of}
-use Rattle.sim_top.specs.Answer.{Input, DecidesBy}
-use Rattle.sim_top.specs.Inner.{IsRanFor, IsOfRun, IsRefusal, IsDecided, file_of}
+use Rattle.sim_top.specs.Answer.{Input, DecidesBy, journal_file}
+use Rattle.sim_top.specs.Inner.{IsRanFor, IsOfRun, IsOfWorkload, IsRefusal, IsDecided}
 
 -- the end of a run
 
@@ -60,20 +60,20 @@ pub decided_run : (i : Input) (request : Request) (ran : Ran) (r : Result Decisi
     → IsRanFor i.holds request ran → IfOk r (IsOfRun request ran) → IfOk r (IsDecided i)
 decided_run i request ran (Ok d) meant well is of =
     let run : HasRun i.holds request d.outcome d.journal d.text = rw (of.outcome, of.journal, of.text) (has_run i.holds request ran is) in
-    record {
-      name = written_name request;
-      decides = subst (λ m. DecidesBy i m d.outcome d.journal d.text (written_name request)) (sym meant) (inr (well, run, refl));
-      file = of.file ∙ ap (file_of (written_name request)) (sym of.journal);
-    }
+    let file : d.file ≡ journal_file (written_name request) d.journal = of.file ∙ ap (journal_file (written_name request)) (sym of.journal) in
+    subst (λ m. DecidesBy i m d.outcome d.journal d.text d.file) (sym meant) (inr (inl (well, run, file)))
 decided_run i request ran (Err e) meant well is of = tt
+
+pub decided_workload : (i : Input) (request : Request) (r : Result Decision NoMemory) → meaning i.words ≡ Some request → i.faults_now ≡ i.faults_before
+    → IfOk r (IsOfWorkload request) → IfOk r (IsDecided i)
+decided_workload i request (Ok d) meant well is =
+    subst (λ m. DecidesBy i m d.outcome d.journal d.text d.file) (sym meant) (inr (inr (well, is.file, is.no_run)))
+decided_workload i request (Err e) meant well is = tt
 
 pub decided_unread : (i : Input) (r : Result Decision NoMemory) → meaning i.words ≡ None → i.faults_now ≡ i.faults_before
     → IfOk r (IsRefusal Usage) → IfOk r (IsDecided i)
-decided_unread i (Ok d) meaningless well is = record {
-  name = None;
-  decides = subst (λ m. DecidesBy i m d.outcome d.journal d.text None) (sym meaningless) (well, is.outcome_is, is.no_run, refl);
-  file = is.no_file;
-}
+decided_unread i (Ok d) meaningless well is =
+    subst (λ m. DecidesBy i m d.outcome d.journal d.text d.file) (sym meaningless) (well, is.outcome_is, is.no_run, is.no_file)
 decided_unread i (Err e) meaningless well is = tt
 
 pub decided_refused : (i : Input) (request : Request) (outcome : Outcome) (r : Result Decision NoMemory) → meaning i.words ≡ Some request
@@ -81,9 +81,5 @@ pub decided_refused : (i : Input) (request : Request) (outcome : Outcome) (r : R
 decided_refused i request outcome (Ok d) meant refuses is =
     let refused : Refuses i.holds i.faults_before i.faults_now request d.outcome = subst (Refuses i.holds i.faults_before i.faults_now request) (sym is.outcome_is) refuses in
     let no_run : HasNoRun d.outcome d.journal d.text = subst (λ o. HasNoRun o d.journal d.text) (sym is.outcome_is) is.no_run in
-    record {
-      name = None;
-      decides = subst (λ m. DecidesBy i m d.outcome d.journal d.text None) (sym meant) (inl (refused, no_run, refl));
-      file = is.no_file;
-    }
+    subst (λ m. DecidesBy i m d.outcome d.journal d.text d.file) (sym meant) (inl (refused, no_run, is.no_file))
 decided_refused i request outcome (Err e) meant refuses is = tt

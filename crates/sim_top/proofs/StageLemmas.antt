@@ -18,20 +18,21 @@ use Rattle.journal_file.specs.declared.refusal.JournalRefusal.TheVariants.{TooLo
 use Rattle.journal_file.specs.Reading.{reading, told, fault_place}
 use Rattle.node_machine.specs.declared.cores.Ran.{Ran}
 use Rattle.sim_config.specs.declared.words.Request.{Request}
-use Rattle.sim_config.specs.declared.words.Request.TheVariants.{Run, Replay}
+use Rattle.sim_config.specs.declared.words.Request.TheVariants.{Run, Replay, Bench}
 use Rattle.sim_config.specs.SettingsFile.{settings}
 use Rattle.sim_top.specs.declared.outcomes.Halt.{Halt}
 use Rattle.sim_top.specs.declared.outcomes.Halt.TheVariants.{Refused, NoMemory}
 use Rattle.sim_top.specs.declared.outcomes.JournalFault.TheVariants.{TooLong, Byte, Event as EventFault, Unfinished}
 use Rattle.sim_top.specs.declared.outcomes.Outcome.{Outcome}
 use Rattle.sim_top.specs.declared.outcomes.Outcome.TheVariants.{BadConfig, BadImage}
-use Rattle.sim_top.specs.Asked.{ReadsAs, SettingsSay, HasSettings, HasMachine, config_name, image_name, replayed_name}
+use Rattle.sim_top.specs.Asked.{ReadsAs, FileSays, ImageSays, HasSettings, HasMachine, settings_of, config_name, image_name, replayed_name}
 use Rattle.sim_top.specs.Decided.{Refuses, GetsStuck}
-use Rattle.sim_top.specs.Inner.{ReadsFile, Accepts, Halts, Stage, IsRanFor, Draws, Follows, journal_refusal}
+use Rattle.sim_top.specs.Inner.{ReadsFile, Accepts, FindsImage, Halts, Stage, IsRanFor, Draws, Follows, journal_refusal}
 
 -- files that are longer than what is read of them are refused
 
 pub long_settings : (file : List ℕ) → 65536 < length file → settings file ≡ Err Length
+unfolding settings
 long_settings file long = let t : nat_lt 65536 (length file) ≡ true = grind (arith, nat_tests) in rw t refl
 
 pub long_image : (file : List ℕ) → 16777216 < length file → image_of file ≡ Err ImageTooLong
@@ -73,12 +74,11 @@ module _ (holds : Contents) (before now : List ℕ → ℕ) (request : Request) 
       → Accepts {A = Config} holds before now name settings BadConfig (Err halt) → Halts holds before now request halt
   settings_halt name named (Refused outcome) (inl (is, rose)) = subst (Refuses holds before now request) (sym is) (name, inl named, rose)
   settings_halt name named (Refused outcome) (inr (field, is, same, said)) =
-      subst (Refuses holds before now request) (sym is) (same, subst (λ n. SettingsSay holds n (Err field)) (sym named) said)
+      subst (Refuses holds before now request) (sym is) (same, subst (λ n. FileSays holds n (settings_of request) (Err field)) (sym named) said)
   settings_halt name named NoMemory is = tt
 
-  pub image_halt : (config : Config) → HasSettings holds request config → (halt : Halt)
-      → Accepts {A = Program} holds before now (image_name request) image_of BadImage (Err halt) → Halts holds before now request halt
-  image_halt config has (Refused outcome) (inl (is, rose)) = subst (Refuses holds before now request) (sym is) (image_name request, inr (inl ((config, has), refl)), rose)
+  pub image_halt : (config : Config) → HasSettings holds request config → (halt : Halt) → FindsImage holds before now request (Err halt) → Halts holds before now request halt
+  image_halt config has (Refused outcome) (inl (is, name, named, rose)) = subst (Refuses holds before now request) (sym is) (name, inr (inl ((config, has), named)), rose)
   image_halt config has (Refused outcome) (inr (fault, is, same, said)) = subst (Refuses holds before now request) (sym is) (same, (config, has), said)
   image_halt config has NoMemory is = tt
 
@@ -102,6 +102,13 @@ module _ (holds : Contents) (before now : List ℕ → ℕ) (request : Request) 
         let gets : GetsStuck request w = rw is (stuck.1, stuck.2) in
         subst (Refuses holds before now request) (sym stuck.0) (same, w, machine, gets)
     drawn_stage image config seed journal is same (Err NoMemory) nothing = tt
+
+    pub benched_stage : (seed : ℕ) → request ≡ Bench seed → now ≡ before → (r : Result Ran Halt) → Draws w r → Stage holds before now request (IsRanFor holds request) r
+    benched_stage seed is same (Ok ran) drawn = (same, record { w = w; machine = machine; checked = checked; is_ran = drawn.0; asked = rw is drawn.1 })
+    benched_stage seed is same (Err (Refused outcome)) stuck =
+        let gets : GetsStuck request w = rw is (stuck.1, stuck.2) in
+        subst (Refuses holds before now request) (sym stuck.0) (same, w, machine, gets)
+    benched_stage seed is same (Err NoMemory) nothing = tt
 
     pub followed_stage : (image journal : List ℕ) (config : Option (List ℕ)) (seed : Option ℕ) (events : List Event) → request ≡ Replay image journal config seed → now ≡ before
         → ReadsAs holds journal reading (Ok events) → (r : Result Ran Halt) → Follows w events r → Stage holds before now request (IsRanFor holds request) r

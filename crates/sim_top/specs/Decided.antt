@@ -1,11 +1,13 @@
--- What a request decides: why there is no run, or the run with its journal and its text. This simulator's own.
-use Rattle.std.specs.Prelude.{◌≡◌, ℕ, List, [], take, Some, Ok, Err}
+-- What a request decides: why there is no run, or the run with its journal and its text, or the file of a workload. This
+-- simulator's own.
+use Rattle.std.specs.Prelude.{◌≡◌, ℕ, List, [], take, Option, Some, Ok, Err}
 use Rattle.sim_base.specs.declared.ends.End.{End}
 use Rattle.sim_base.specs.declared.ends.End.TheVariants.{Exit, Trap, Deadlock, Budget}
 use Rattle.sim_base.specs.declared.settings.Config.{Config}
 use Rattle.sim_outside.specs.Fault.{Rose}
 use Rattle.sim_outside.specs.Told.{Contents}
-use Rattle.elf_image.specs.Image.{image_of}
+use Rattle.elf_image.specs.Image.{Program}
+use Rattle.elf_image.specs.File.{file_of}
 use Rattle.elf_image.specs.Layout.{Setup}
 use Rattle.event_journal.specs.declared.events.Event.{Event}
 use Rattle.journal_file.specs.declared.refusal.JournalRefusal.TheVariants.{TooLong as FileTooLong, Byte as FileByte}
@@ -19,12 +21,14 @@ use Rattle.seq_driver.specs.Driven.{state_after, IsJournal, IsDrawn, IsStuck}
 use Rattle.seq_driver.specs.Replayed.{IsFirstRefused, IsUnfinished}
 use Rattle.stats_report.specs.Report.{state_text}
 use Rattle.sim_config.specs.declared.words.Request.{Request}
-use Rattle.sim_config.specs.declared.words.Request.TheVariants.{Run, Replay}
+use Rattle.sim_config.specs.declared.words.Request.TheVariants.{Run, Replay, Gen, Bench}
+use Rattle.workload_gen.specs.Workload.{IsWorkload}
+use Rattle.sim_top.specs.declared.outcomes.FileToWrite.{FileToWrite}
 use Rattle.sim_top.specs.declared.outcomes.JournalFault.{JournalFault}
 use Rattle.sim_top.specs.declared.outcomes.JournalFault.TheVariants.{TooLong, Byte, Event as EventFault, Unfinished}
 use Rattle.sim_top.specs.declared.outcomes.Outcome.{Outcome}
-use Rattle.sim_top.specs.declared.outcomes.Outcome.TheVariants.{Done, Trap as TrapOutcome, Deadlock as DeadlockOutcome, Budget as BudgetOutcome, Stuck, BadConfig, BadImage, BadJournal, ReadFault}
-use Rattle.sim_top.specs.Asked.{SettingsSay, ReadsAs, HasSettings, HasMachine, IsRead, config_name, image_name, replayed_name}
+use Rattle.sim_top.specs.declared.outcomes.Outcome.TheVariants.{Done, Written, Trap as TrapOutcome, Deadlock as DeadlockOutcome, Budget as BudgetOutcome, Stuck, BadConfig, BadImage, BadJournal, ReadFault}
+use Rattle.sim_top.specs.Asked.{SettingsSay, ImageSays, ReadsAs, HasSettings, HasMachine, IsRead, replayed_name}
 use Rattle.sim_top.specs.Text.{fault_text}
 
 -- the outcome of a run that ended so
@@ -48,10 +52,12 @@ IsEndedRun w (TrapOutcome thread cause pc) journal text =
     IsRunOf w (TrapOutcome thread cause pc) journal text × HasTrapped w (start_state w) journal thread cause pc
 IsEndedRun w outcome journal text = IsRunOf w outcome journal text
 
--- the run that is asked for: the one that the machine's seed draws, or the one of the journal's file
+-- the run that is asked for, if one is: the one that the machine's seed draws, or the one of the journal's file
 abbrev pub IsAskedRun : Contents → Request → Setup → List Event → Type 0
 IsAskedRun holds (Run image config seed journal) w events = IsDrawn w events
+IsAskedRun holds (Bench seed) w events = IsDrawn w events
 IsAskedRun holds (Replay image journal config seed) w events = ReadsAs holds journal reading (Ok events)
+IsAskedRun holds (Gen kind seed out) w events = ⊥
 
 -- a journal's file is refused, or what it says is no whole run of the machine
 abbrev pub RefusesJournal : Contents → List ℕ → Setup → JournalFault → Type 0
@@ -63,7 +69,8 @@ RefusesJournal holds name w (Unfinished count) = (events : List Event) × ReadsA
 -- the seed's run, where it is asked for, comes to a state without an end in which no event is enabled
 abbrev pub GetsStuck : Request → Setup → Type 0
 GetsStuck (Run image config seed journal) w = (events : List Event) × IsStuck w events
-GetsStuck (Replay image journal config seed) w = ⊥
+GetsStuck (Bench seed) w = (events : List Event) × IsStuck w events
+GetsStuck _ w = ⊥
 
 -- there is no run: no journal is returned, and the text is the outcome's fault line
 pub record HasNoRun (outcome : Outcome) (journal : List Event) (text : List ℕ) : Type 0 where
@@ -75,9 +82,9 @@ pub record HasNoRun (outcome : Outcome) (journal : List Event) (text : List ℕ)
 -- passed over by no other outcome
 abbrev pub Refuses : Contents → (List ℕ → ℕ) → (List ℕ → ℕ) → Request → Outcome → Type 0
 Refuses holds before now request ReadFault = (name : List ℕ) × IsRead holds request name × Rose (before name) (now name)
-Refuses holds before now request (BadConfig field) = (now ≡ before) × SettingsSay holds (config_name request) (Err field)
+Refuses holds before now request (BadConfig field) = (now ≡ before) × SettingsSay holds request (Err field)
 Refuses holds before now request (BadImage fault) =
-    (now ≡ before) × ((config : Config) × HasSettings holds request config) × ReadsAs holds (image_name request) image_of (Err fault)
+    (now ≡ before) × ((config : Config) × HasSettings holds request config) × ImageSays holds request (Err fault)
 Refuses holds before now request (BadJournal fault) =
     (now ≡ before) × (w : Setup) × HasMachine holds request w
     × (name : List ℕ) × (replayed_name request ≡ Some name) × RefusesJournal holds name w fault
@@ -96,3 +103,9 @@ pub record HasRun (holds : Contents) (request : Request) (outcome : Outcome) (jo
   pub asked : IsAskedRun holds request w journal
   pub ended : IsEndedRun w outcome journal text
   pub coherent : StaysCoherent w journal
+
+-- the file of the workload that is asked for is to be written, and nothing is run
+abbrev pub IsWorkloadFile : Request → Outcome → Option FileToWrite → Type 0
+IsWorkloadFile (Gen kind seed out) outcome file =
+    (outcome ≡ Written) × (program : Program) × IsWorkload kind seed program × (file ≡ Some (record { name = out; bytes = file_of program }))
+IsWorkloadFile _ outcome file = ⊥

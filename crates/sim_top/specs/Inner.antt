@@ -4,26 +4,28 @@ use Rattle.sim_base.specs.Settings.{IsChecked}
 use Rattle.sim_outside.specs.Fault.{Rose}
 use Rattle.sim_outside.specs.Told.{Contents, Holds, Wrote, HoldsAllBut}
 use Rattle.event_journal.specs.declared.events.Event.{Event}
-use Rattle.journal_file.specs.File.{journal_bytes}
 use Rattle.journal_file.specs.declared.refusal.JournalRefusal.{JournalRefusal}
 use Rattle.journal_file.specs.declared.refusal.JournalRefusal.TheVariants.{TooLong as FileTooLong, Byte as FileByte, NoMemory as FileNoMemory}
+use Rattle.elf_image.specs.declared.refusal.ImageFault.{ImageFault}
+use Rattle.elf_image.specs.Image.{Program}
 use Rattle.elf_image.specs.Layout.{Setup}
 use Rattle.node_machine.specs.declared.cores.Ran.{Ran}
 use Rattle.seq_driver.specs.Driven.{IsRan, IsDrawn, IsStuck}
 use Rattle.seq_driver.specs.Replayed.{IsFirstRefused, IsUnfinished}
 use Rattle.sim_config.specs.declared.words.Request.{Request}
+use Rattle.sim_config.specs.declared.words.Request.TheVariants.{Gen}
 use Rattle.sim_top.specs.declared.outcomes.Decision.{Decision}
 use Rattle.sim_top.specs.declared.outcomes.Halt.{Halt}
 use Rattle.sim_top.specs.declared.outcomes.Halt.TheVariants.{Refused, NoMemory}
 use Rattle.sim_top.specs.declared.outcomes.JournalFault.{JournalFault}
 use Rattle.sim_top.specs.declared.outcomes.JournalFault.TheVariants.{TooLong, Byte, Event as EventFault, Unfinished}
 use Rattle.sim_top.specs.declared.outcomes.Outcome.{Outcome}
-use Rattle.sim_top.specs.declared.outcomes.Outcome.TheVariants.{BadJournal, ReadFault, WriteFault, Stuck, NoMemory as OutOfMemory}
+use Rattle.sim_top.specs.declared.outcomes.Outcome.TheVariants.{BadImage, BadJournal, ReadFault, WriteFault, Stuck, NoMemory as OutOfMemory}
 use Rattle.stats_report.specs.Report.{core_text}
-use Rattle.sim_top.specs.declared.outcomes.JournalToWrite.{JournalToWrite}
-use Rattle.sim_top.specs.Asked.{ReadsAs, HasMachine, written_name}
-use Rattle.sim_top.specs.Decided.{Refuses, IsAskedRun, HasNoRun, outcome_of}
-use Rattle.sim_top.specs.Answer.{Input, Decides}
+use Rattle.sim_top.specs.declared.outcomes.FileToWrite.{FileToWrite}
+use Rattle.sim_top.specs.Asked.{ReadsAs, ImageSays, HasMachine, image_name, written_name}
+use Rattle.sim_top.specs.Decided.{Refuses, IsAskedRun, IsWorkloadFile, HasNoRun, outcome_of}
+use Rattle.sim_top.specs.Answer.{Input, Decides, journal_file}
 
 -- one file: the whole of it was read; or reading it had one more fault; or it is longer than the limit, and refused so
 abbrev pub ReadsFile : Contents → (List ℕ → ℕ) → (List ℕ → ℕ) → List ℕ → ℕ → Outcome → Result (List ℕ) Halt → Type 0
@@ -45,6 +47,14 @@ abbrev pub journal_refusal : JournalRefusal → Outcome
 journal_refusal FileTooLong = BadJournal TooLong
 journal_refusal (FileByte at) = BadJournal (Byte at)
 journal_refusal FileNoMemory = OutOfMemory
+
+-- the image of a request: it is found; or reading its file had one more fault; or it is refused, with this fault
+abbrev pub FindsImage : Contents → (List ℕ → ℕ) → (List ℕ → ℕ) → Request → Result Program Halt → Type 0
+FindsImage holds before now request (Ok program) = (now ≡ before) × ImageSays holds request (Ok program)
+FindsImage holds before now request (Err (Refused outcome)) =
+    ((outcome ≡ ReadFault) × (name : List ℕ) × (image_name request ≡ Some name) × Rose (before name) (now name))
+    ⊎ ((fault : ImageFault) × (outcome ≡ BadImage fault) × (now ≡ before) × ImageSays holds request (Err fault))
+FindsImage holds before now request (Err NoMemory) = Unit {0}
 
 -- a request is refused, or its run gets stuck; or memory ran out
 abbrev pub Halts : Contents → (List ℕ → ℕ) → (List ℕ → ℕ) → Request → Halt → Type 0
@@ -81,22 +91,21 @@ Follows w events (Ok ran) = IsRan w ran × (ran.journal ≡ events)
 Follows w events (Err (Refused outcome)) = (fault : JournalFault) × (outcome ≡ BadJournal fault) × IsNoRun w events fault
 Follows w events (Err NoMemory) = Unit {0}
 
--- a decision: the input decides it, and its file is the journal's, to be written to the name
-abbrev pub file_of : Option (List ℕ) → List Event → Option JournalToWrite
-file_of None journal = None
-file_of (Some name) journal = Some (record { name = name; bytes = journal_bytes journal })
+-- a request of a run, and not of a file alone
+abbrev pub AsksRun : Request → Type 0
+AsksRun (Gen kind seed out) = ⊥
+AsksRun _ = Unit {0}
 
-pub record IsDecided (i : Input) (d : Decision) : Type 0 where
-  pub name : Option (List ℕ)
-  pub decides : Decides i d.outcome d.journal d.text name
-  pub file : d.file ≡ file_of name d.journal
+-- the input decides it
+abbrev pub IsDecided : Input → Decision → Type 0
+IsDecided i d = Decides i d.outcome d.journal d.text d.file
 
 -- a decision of a run
 pub record IsOfRun (request : Request) (ran : Ran) (d : Decision) : Type 0 where
   pub outcome : d.outcome ≡ outcome_of ran.end
   pub journal : d.journal ≡ ran.journal
   pub text : d.text ≡ core_text ran.core ran.end
-  pub file : d.file ≡ file_of (written_name request) ran.journal
+  pub file : d.file ≡ journal_file (written_name request) ran.journal
 
 -- a decision without one
 pub record IsRefusal (outcome : Outcome) (d : Decision) : Type 0 where
@@ -104,9 +113,14 @@ pub record IsRefusal (outcome : Outcome) (d : Decision) : Type 0 where
   pub no_run : HasNoRun outcome d.journal d.text
   pub no_file : d.file ≡ None
 
+-- a decision of the file of a workload
+pub record IsOfWorkload (request : Request) (d : Decision) : Type 0 where
+  pub file : IsWorkloadFile request d.outcome d.file
+  pub no_run : HasNoRun d.outcome d.journal d.text
+
 -- what storing a decision comes to: without a file, it is answered; else its file is written and it is answered, or writing
 -- had one more fault, or memory ran out
-abbrev pub Stores : Decision → Outcome → List Event → Contents → Contents → (List ℕ → ℕ) → (List ℕ → ℕ) → Option JournalToWrite → Type 0
+abbrev pub Stores : Decision → Outcome → List Event → Contents → Contents → (List ℕ → ℕ) → (List ℕ → ℕ) → Option FileToWrite → Type 0
 Stores d outcome journal held holds before now None = (outcome ≡ d.outcome) × (journal ≡ d.journal) × (holds ≡ held) × (now ≡ before)
 Stores d outcome journal held holds before now (Some file) =
     ((outcome ≡ d.outcome) × (journal ≡ d.journal) × Wrote held holds file.name file.bytes × (now ≡ before))

@@ -4,6 +4,7 @@ pub mod Asked
 pub mod Decided
 pub mod Answer
 pub mod Inner
+pub use Rattle.workload_gen.specs.Workload
 pub use Rattle.sim_config.specs.Words
 pub use Rattle.sim_config.specs.SettingsFile
 pub use Rattle.journal_file.specs.File

@@ -6,7 +6,7 @@ use Rattle.stats_report.specs.Text.{line}
 use Rattle.sim_top.specs.declared.outcomes.JournalFault.{JournalFault}
 use Rattle.sim_top.specs.declared.outcomes.JournalFault.TheVariants.{TooLong, Byte, Event, Unfinished}
 use Rattle.sim_top.specs.declared.outcomes.Outcome.{Outcome}
-use Rattle.sim_top.specs.declared.outcomes.Outcome.TheVariants.{Done, Trap, Deadlock, Budget, Stuck, Usage, BadConfig, BadImage, BadJournal, ReadFault, WriteFault, NoMemory}
+use Rattle.sim_top.specs.declared.outcomes.Outcome.TheVariants.{Done, Written, Trap, Deadlock, Budget, Stuck, Usage, BadConfig, BadImage, BadJournal, ReadFault, WriteFault, NoMemory}
 
 -- why a journal is refused: the first byte of its file that is wrong, the first event that isn't enabled, or that it ends
 -- before the run does; bytes and events are counted from 0
@@ -29,6 +29,7 @@ fault_text _ = []
 -- the exit status of the process
 abbrev pub status_of : Outcome → ℕ
 status_of (Done code) = 0
+status_of Written = 0
 status_of (Trap thread cause pc) = 1
 status_of Deadlock = 2
 status_of Budget = 3

@@ -1,15 +1,25 @@
 ghost use Rattle.std.specs.Prelude.{◌≡◌, option_copied};
-ghost use Rattle.sim_top.specs.Asked.{image_name, config_name, seed_of, written_name};
+ghost use Rattle.sim_base.specs.Settings.{IsChecked};
+ghost use Rattle.sim_top.specs.Asked.{settings_of, config_name, seed_of, written_name};
 
-use sim_base::Text;
+use sim_base::{Config, Text};
 use sim_config::Request;
 
-/// The name of a request's image.
-pub(crate) fn image_name(request: &Request) -> &Text
-    ensures { result.now ≡ image_name request.now }
+/// How many tiles `bench` runs a workload on.
+const BENCH_TILES: u32 = 16;
+
+/// The settings of a request that names no file of them.
+pub(crate) fn settings_of(request: &Request) -> Config
+    ensures settings { result ≡ settings_of request.now }
+    ensures checked { IsChecked result }
 {
+    let settings = Config::defaults();
     match request {
-        Request::Run { image, .. } | Request::Replay { image, .. } => image,
+        Request::Bench { .. } => Config {
+            tiles: BENCH_TILES,
+            ..settings
+        },
+        _ => settings,
     }
 }
 
@@ -19,6 +29,7 @@ pub(crate) fn config_name(request: &Request) -> Option<&Text>
 {
     match request {
         Request::Run { config, .. } | Request::Replay { config, .. } => config.as_ref(),
+        Request::Gen { .. } | Request::Bench { .. } => None,
     }
 }
 
@@ -28,6 +39,8 @@ pub(crate) fn seed_of(request: &Request) -> Option<u64>
 {
     match request {
         Request::Run { seed, .. } | Request::Replay { seed, .. } => *seed,
+        Request::Bench { seed } => Some(*seed),
+        Request::Gen { .. } => None,
     }
 }
 
@@ -37,6 +50,6 @@ pub(crate) fn written_name(request: &Request) -> Option<&Text>
 {
     match request {
         Request::Run { journal, .. } => journal.as_ref(),
-        Request::Replay { .. } => None,
+        Request::Replay { .. } | Request::Gen { .. } | Request::Bench { .. } => None,
     }
 }

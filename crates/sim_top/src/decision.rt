@@ -2,27 +2,29 @@ ghost use Rattle.std.specs.Prelude.{◌≡◌, ◌≤◌, IfOk};
 ghost use Rattle.sim_base.specs.Settings.{IsChecked};
 ghost use Rattle.journal_file.specs.File.{journal_bytes};
 ghost use Rattle.seq_driver.specs.Driven.{IsRan};
+ghost use Rattle.sim_config.specs.declared.words.Request.TheVariants.{Gen};
 ghost use Rattle.sim_top.specs.Asked.{HasSettings, HasMachine, written_name, with_seed};
 ghost use Rattle.sim_top.specs.Decided.{outcome_of};
-ghost use Rattle.sim_top.specs.Inner.{Stage, IsRanFor, IsDecided, IsOfRun, IsRefusal, Draws, Follows, file_of};
+ghost use Rattle.sim_top.specs.Inner.{AsksRun, Stage, FindsImage, IsRanFor, IsDecided, IsOfRun, IsOfWorkload, IsRefusal, Draws, Follows};
 
-use crate::asked::{config_name, image_name, seed_of, written_name};
+use crate::asked::{config_name, seed_of, settings_of as default_of, written_name};
 use crate::faults::fault_line;
 use crate::files::{image_in, journal_in, settings_in};
-use crate::outcomes::{Decision, Halt, JournalFault, JournalToWrite, Outcome};
-use elf_image::World;
+use crate::outcomes::{Decision, FileToWrite, Halt, JournalFault, Outcome};
+use elf_image::{Image, World, write_image};
 use event_journal::Journal;
 use journal_file::write_journal;
 use node_machine::Ran;
 use seq_driver::{DriveFault, ReplayFault, replay, run_alone};
-use sim_base::{Bytes, Config, End, NoMemory, Text};
+use sim_base::{Bytes, Config, End, Kind, NoMemory, Text};
 use sim_config::{Request, RequestFault, request_of};
 use sim_outside::Files;
 use stats_report::report;
 use std::alloc::Global;
+use workload_gen::generate;
 
-/// What the words and the files that they name decide, in order: the words, the settings, the image, the journal that is
-/// replayed, and the run.
+/// What the words and the files that they name decide, in order: the words; the file of a workload; or the settings, the
+/// image, the journal that is replayed, and the run.
 pub(crate) fn decide<F: Files>(
     alloc: Global,
     words: &[Text],
@@ -42,6 +44,9 @@ pub(crate) fn decide<F: Files>(
         Err(RequestFault::Usage) => return refuse(alloc, Outcome::Usage),
         Err(RequestFault::NoMemory) => return Err(NoMemory),
     };
+    if let Request::Gen { kind, seed, out } = &request {
+        return decide_workload(alloc, *kind, *seed, out);
+    }
     match run(alloc, &request, files) {
         Ok(ran) => decide_run(alloc, &request, ran),
         Err(Halt::Refused { outcome }) => refuse(alloc, outcome),
@@ -51,6 +56,7 @@ pub(crate) fn decide<F: Files>(
 
 /// The run that a request asks for, or why there is none.
 fn run<F: Files>(alloc: Global, request: &Request, files: &mut F) -> Result<Ran, Halt>
+    requires { AsksRun request.now }
     ensures stage { Stage (F.holds files.old) (F.read_faults files.old) (F.read_faults files.new) request.now
         (IsRanFor (F.holds files.old) request.now) result }
     ensures kept { F.holds files.new ≡ F.holds files.old }
@@ -58,7 +64,8 @@ fn run<F: Files>(alloc: Global, request: &Request, files: &mut F) -> Result<Ran,
 {
     let world = machine_of(alloc, request, files)?;
     match request {
-        Request::Run { .. } => draw(alloc, &world),
+        Request::Run { .. } | Request::Bench { .. } => draw(alloc, &world),
+        Request::Gen { .. } => unreachable!(),
         Request::Replay { journal, .. } => {
             let journal = journal_in(alloc, journal.as_str(), files)?;
             follow(alloc, &world, journal)
@@ -74,8 +81,23 @@ fn machine_of<F: Files>(alloc: Global, request: &Request, files: &mut F) -> Resu
     ensures writes { F.write_faults files.new ≡ F.write_faults files.old }
 {
     let config = settings_of(alloc, request, files)?;
-    let image = image_in(alloc, image_name(request).as_str(), files)?;
+    let image = image_of(alloc, request, files)?;
     Ok(World::new(image, config))
+}
+
+/// The image of a request: that of its file, or a workload.
+fn image_of<F: Files>(alloc: Global, request: &Request, files: &mut F) -> Result<Image, Halt>
+    ensures finds { FindsImage (F.holds files.old) (F.read_faults files.old) (F.read_faults files.new) request.now result }
+    ensures kept { F.holds files.new ≡ F.holds files.old }
+    ensures writes { F.write_faults files.new ≡ F.write_faults files.old }
+{
+    match request {
+        Request::Run { image, .. } | Request::Replay { image, .. } => {
+            image_in(alloc, image.as_str(), files)
+        }
+        Request::Gen { kind, seed, .. } => Ok(generate(alloc, *kind, *seed)?),
+        Request::Bench { seed } => Ok(generate(alloc, Kind::Reduce, *seed)?),
+    }
 }
 
 /// The settings of a request: the default ones or those of its file, with its seed.
@@ -88,7 +110,7 @@ fn settings_of<F: Files>(alloc: Global, request: &Request, files: &mut F) -> Res
 {
     let accepted = match config_name(request) {
         Some(name) => settings_in(alloc, name.as_str(), files)?,
-        None => Config::defaults(),
+        None => default_of(request),
     };
     Ok(with_seed(accepted, seed_of(request)))
 }
@@ -133,6 +155,25 @@ fn follow(alloc: Global, world: &World, journal: Journal) -> Result<Ran, Halt>
     })
 }
 
+/// What a workload that is to be written decides: its file.
+fn decide_workload(alloc: Global, kind: Kind, seed: u64, name: &Text) -> Result<Decision, NoMemory>
+    ensures { IfOk result (IsOfWorkload (Gen kind seed name.now)) }
+{
+    let image = generate(alloc, kind, seed)?;
+    let bytes = Bytes::from_vec(write_image(alloc, &image)?);
+    Ok(Decision {
+        outcome: Outcome::Written,
+        journal: Journal {
+            events: Vec::new(alloc),
+        },
+        text: Bytes::from_vec(Vec::new(alloc)),
+        file: Some(FileToWrite {
+            name: Text::new(alloc, name.as_str())?,
+            bytes,
+        }),
+    })
+}
+
 /// What a run decides: its end, its report, and the file of its journal where one is asked for.
 fn decide_run(alloc: Global, request: &Request, ran: Ran) -> Result<Decision, NoMemory>
     requires { ran.core.tiles ≤ 256 }
@@ -140,7 +181,7 @@ fn decide_run(alloc: Global, request: &Request, ran: Ran) -> Result<Decision, No
 {
     let text = Bytes::from_vec(report(alloc, &ran.core, &ran.end)?);
     let file = match written_name(request) {
-        Some(name) => Some(file_of(alloc, name, &ran.journal)?),
+        Some(name) => Some(journal_to_write(alloc, name, &ran.journal)?),
         None => None,
     };
     Ok(Decision {
@@ -152,10 +193,10 @@ fn decide_run(alloc: Global, request: &Request, ran: Ran) -> Result<Decision, No
 }
 
 /// The file of a journal, to be written to a name.
-fn file_of(alloc: Global, name: &Text, journal: &Journal) -> Result<JournalToWrite, NoMemory>
+fn journal_to_write(alloc: Global, name: &Text, journal: &Journal) -> Result<FileToWrite, NoMemory>
     ensures { IfOk result (λ file. (file.name ≡ name.now) × (file.bytes ≡ journal_bytes journal.now)) }
 {
-    Ok(JournalToWrite {
+    Ok(FileToWrite {
         name: Text::new(alloc, name.as_str())?,
         bytes: Bytes::from_vec(write_journal(alloc, journal)?),
     })

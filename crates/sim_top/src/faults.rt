@@ -22,6 +22,7 @@ pub fn fault_line(alloc: Global, outcome: &Outcome) -> Result<Vec<u8>, NoMemory>
         Outcome::ReadFault => String::from_str(alloc, "tilesim: read fault\n")?,
         Outcome::Stuck => String::from_str(alloc, "tilesim: stuck\n")?,
         Outcome::Done { .. }
+        | Outcome::Written
         | Outcome::Trap { .. }
         | Outcome::Deadlock
         | Outcome::Budget

@@ -10,6 +10,8 @@ use sim_base::{Bytes, Cause, Field, NoMemory, Text};
 pub enum Outcome {
     /// The program exited with this code.
     Done { code: u8 },
+    /// The image of a workload was written.
+    Written,
     /// A thread's instruction at `pc` trapped.
     Trap { thread: u32, cause: Cause, pc: u64 },
     /// Every live thread waits for another.
@@ -28,7 +30,7 @@ pub enum Outcome {
     BadJournal { fault: JournalFault },
     /// A file couldn't be read.
     ReadFault,
-    /// The text couldn't be put, or the journal couldn't be written.
+    /// The text couldn't be put, or the file couldn't be written.
     WriteFault,
     /// Memory ran out.
     NoMemory,
@@ -64,12 +66,12 @@ pub(crate) struct Decision {
     pub outcome: Outcome,
     pub journal: Journal,
     pub text: Bytes,
-    pub file: Option<JournalToWrite>,
+    pub file: Option<FileToWrite>,
 }
 
-/// The file that a run's journal is written to.
+/// A file that is to be written: the journal of a run, or the image of a workload.
 #[derive(Drop)]
-pub(crate) struct JournalToWrite {
+pub(crate) struct FileToWrite {
     pub name: Text,
     pub bytes: Bytes,
 }

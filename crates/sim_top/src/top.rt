@@ -13,8 +13,8 @@ use std::alloc::Global;
 
 /// The whole simulator, on one thread of the host: `words` are those after the program's name. In order: the words are read;
 /// the settings, the image and the journal to replay are read and checked; the program is run, or its journal is replayed;
-/// the text is put on `out`; and a run's journal is written to its file, where one is named. What fails ends the call. It
-/// always returns.
+/// the text is put on `out`; and a run's journal is written to its file, where one is named. `gen` writes the image of a
+/// workload and puts nothing, and `bench` runs one. What fails ends the call. It always returns.
 pub fn execute_alone<F: Files, S: Sink>(
     alloc: Global,
     words: &[Text],
@@ -58,7 +58,7 @@ pub fn absent_is_read_fault()
     ensures { AbsentIsReadFault }
 {}
 
-/// Writes the journal of a decision to its file, if it has one, and answers.
+/// Writes the file of a decision, if it has one, and answers.
 fn store<F: Files>(alloc: Global, files: &mut F, decision: Decision) -> Finish
     ensures stores { Stores decision result.outcome result.journal (F.holds files.old) (F.holds files.new)
         (F.write_faults files.old) (F.write_faults files.new) decision.file }
@@ -97,7 +97,7 @@ fn finish(outcome: Outcome, journal: Journal) -> Finish
     ensures status { result.status ≡ status_of outcome }
 {
     let status = match outcome {
-        Outcome::Done { .. } => 0,
+        Outcome::Done { .. } | Outcome::Written => 0,
         Outcome::Trap { .. } => 1,
         Outcome::Deadlock => 2,
         Outcome::Budget => 3,

@@ -1,12 +1,12 @@
 -- The run that is asked for.
-use Rattle.std.proofs.Common.{◌≡◌, List, Some, Err, Ok, subst, ◌∙◌, rules}
+use Rattle.std.proofs.Common.{◌≡◌, List, Some, Err, Ok, subst, ◌∙◌, inl, inr, rules}
 use Rattle.sim_base.specs.Settings.{IsChecked}
 use Rattle.event_journal.specs.declared.events.Event.{Event}
 use Rattle.journal_file.specs.Reading.{reading}
 use Rattle.sim_top.specs.Asked.{ReadsAs, replayed_name}
 use Rattle.sim_config.specs.declared.words.Request.TheVariants.{Replay}
 use Rattle.sim_top.specs.Inner.{Accepts, journal_refusal}
-use Rattle.sim_top.proofs.StageLemmas.{journal_halt, followed_stage}
+use Rattle.sim_top.proofs.StageLemmas.{journal_halt, drawn_stage, benched_stage, followed_stage}
 use Rattle.sim_top.proofs.decision.run.Goals as goal
 
 pub returns-in_err-journal-in-Replay-clause-stage : goal.returns-in_err-journal-in-Replay-clause-stage
@@ -30,3 +30,16 @@ returns-clause-stage g c =
     followed_stage (g.F.Files.holds c.args.files.now) (g.F.Files.read_faults c.args.files.now) (g.F.Files.read_faults c.journal_in.new.files) c.args.request.now
     c.in_ok-world.world c.in_ok-world.ensures.stage.1 (subst (λ w. IsChecked w.config) c.world.view_is c.world.invariant.checked) c.in-Replay.image c.as_str.result.now c.in-Replay.config c.in-Replay.seed c.in_ok-journal-in-Replay.journal is
     (c.in_ok-journal-in-Replay.ensures.accepts.0 ∙ c.in_ok-world.ensures.stage.0) said c.follow.result c.follow.ensures
+
+pub returns-in-Run-clause-stage : goal.returns-in-Run-clause-stage
+returns-in-Run-clause-stage g c =
+    let holds = g.F.Files.holds c.args.files.now in
+    let before = g.F.Files.read_faults c.args.files.now in
+    let now = g.F.Files.read_faults c.machine_of.new.files in
+    let checked : IsChecked c.in_ok-world.world.config = subst (λ w. IsChecked w.config) c.world.view_is c.world.invariant.checked in
+    elim c.in-Run.is [
+      | inl (image, config, seed, journal, is) ↦
+          drawn_stage holds before now c.args.request.now c.in_ok-world.world c.in_ok-world.ensures.stage.1 checked image config seed journal is c.in_ok-world.ensures.stage.0 c.draw.result c.draw.ensures
+      | inr (seed, is) ↦
+          benched_stage holds before now c.args.request.now c.in_ok-world.world c.in_ok-world.ensures.stage.1 checked seed is c.in_ok-world.ensures.stage.0 c.draw.result c.draw.ensures
+    ]
