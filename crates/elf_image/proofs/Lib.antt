@@ -1,4 +1,5 @@
 pub mod Apart
+pub mod Grants
 pub mod Lookup
 pub mod Sizes
 pub mod Stacks

@@ -6,6 +6,7 @@ use Rattle.std.proofs.lemmas.Nat.{div-add-mod'}
 use Rattle.std.proofs.lemmas.Bool.Decides.{nat_tests}
 use Rattle.elf_image.specs.declared.address_map.Layout.{Layout}
 use Rattle.elf_image.specs.Layout.{Setup, IsLaidOut, AreFree, is_heap, is_stack, is_on_stack, is_free, stack_base, heap_start, heap_end, layout_of, has_right, may}
+use Rattle.elf_image.proofs.Grants.{each_granted}
 use Rattle.elf_image.specs.declared.address_map.Right.{Right}
 use Rattle.elf_image.specs.declared.address_map.Right.TheVariants.{Read, Write, ReadWrite}
 use Rattle.std.proofs.lemmas.List.Folds.{list_any_at}
@@ -161,9 +162,7 @@ right_there w Write k free = rw free refl
 right_there w ReadWrite k free = rw free refl
 
 pub granted_all : (w : Setup) (right : Right) (a size : ℕ) → AreFree w a size → may w a size right ≡ true
-granted_all w right a zero free = refl
-granted_all w right a (suc n) free =
-    rw (right_there w right a (free a (omega arith) (omega arith)), granted_all w right (a + 1) n (λ k from below. free k (omega arith) (omega arith))) refl
+granted_all w right a size free = each_granted w right a size (λ k from below. right_there w right k (free k from below))
 
 -- a front of bytes that are free is free
 pub fewer_free : (w : Setup) (a size most : ℕ) → size ≤ most → AreFree w a most → AreFree w a size

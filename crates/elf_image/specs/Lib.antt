@@ -2,5 +2,6 @@ pub mod Decoded
 pub mod File
 pub mod Header
 pub mod Image
+pub mod Inner
 pub mod Layout
 pub mod Names

@@ -180,6 +180,9 @@ impl World {
         if size <= self.free_from(addr) {
             return true;
         }
+        if self.image.grants_range(addr, size, right) {
+            return true;
+        }
         (addr..end).all(|address| self.has_right(address, right))
     }
 

@@ -1,11 +1,13 @@
 ghost use Rattle.std.specs.Prelude.{◌≡◌, ◌+◌, ◌^◌, ◌<◌, ◌≤◌, ◌&&◌, find, map, IfSome, IfOk, IsTrue, nat_lt};
-ghost use Rattle.std.specs.List.{range_with_len};
+ghost use Rattle.std.specs.List.{range_with_len, list_any};
 ghost use Rattle.byteorder.specs.Endian.{little_number};
 ghost use Rattle.std.specs.Option.{option_copied};
 ghost use Rattle.elf_image.specs.Layout.{byte_of, holds_word};
 ghost use Rattle.elf_image.specs.Decoded.{row_at, program_row};
+ghost use Rattle.elf_image.specs.Inner.{grants, holds_range, grants_range};
 ghost use Rattle.elf_image.specs.Image.{holds, segment_end, share_byte, grants_execute, grants_write, grants_read, some_reads, some_writes, IsProgram};
 
+use crate::address_map::Right;
 use crate::decoded::{Decoded, decode_all, first_found};
 use byteorder::{ByteOrder, LittleEndian};
 use rv_decode::{Instr, decode};
@@ -66,6 +68,24 @@ impl Segment {
     {
         let place = (address - self.vaddr) as usize;
         self.bytes.as_slice().get(place).copied().unwrap_or(0)
+    }
+
+    /// Whether it has all of a range.
+    fn holds_range(&self, address: u64, size: u64) -> bool
+        ensures { result ≡ holds_range address size self.now }
+    {
+        self.vaddr <= address && size <= self.memsz && address - self.vaddr <= self.memsz - size
+    }
+
+    /// Whether it grants a right.
+    fn grants(&self, right: Right) -> bool
+        ensures { result ≡ grants right self.now }
+    {
+        match right {
+            Right::Read => self.is_readable(),
+            Right::Write => self.is_writable(),
+            Right::ReadWrite => self.is_readable() && self.is_writable(),
+        }
     }
 
     /// The four bytes at an address before the program runs, as a little-endian number.
@@ -191,6 +211,15 @@ impl Image {
         self.segments
             .iter()
             .any(|segment| segment.is_writable() && segment.holds(address))
+    }
+
+    /// Whether one segment grants a right to all of a range.
+    pub(crate) fn grants_range(&self, address: u64, size: u64, right: Right) -> bool
+        ensures { result ≡ list_any (grants_range right address size) self.now.segments }
+    {
+        self.segments
+            .iter()
+            .any(|segment| segment.grants(right) && segment.holds_range(address, size))
     }
 
     /// The first executable segment that has the four bytes at an address.
