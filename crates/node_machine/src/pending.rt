@@ -137,6 +137,9 @@ impl Pending {
     pub(crate) fn set_step(&mut self, node: NodeId, can: bool)
         ensures { self.new ≡ record self.old { steps = slice_set self.old.steps node can } }
     {
+        if can_step(&self.steps, node) == can {
+            return;
+        }
         note_step(&mut self.steps, node, can);
         let acts = can_act(&self.inboxes, &self.steps, node);
         self.acting.set(node, acts);

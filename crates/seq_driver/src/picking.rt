@@ -1,4 +1,4 @@
-ghost use Rattle.std.specs.Prelude.{◌≡◌, false};
+ghost use Rattle.std.specs.Prelude.{◌≡◌, ◌%◌, ◌<◌, None, IfSome, false};
 ghost use Rattle.seq_driver.specs.Picked.{start_stream, next_word, after_word, after_draw, picked};
 ghost use Rattle.seq_driver.specs.Inner.{choices_in, drawn_in};
 
@@ -60,10 +60,21 @@ pub(crate) fn drawn_event(core: &Core, stream: &mut Stream) -> Option<Event>
 fn picked(nodes: &[NodeId], word: u32) -> Option<NodeId>
     ensures { result ≡ picked nodes.now word }
 {
-    if nodes.is_empty() {
-        return None;
+    let place = place_of(word, nodes.len())?;
+    Some(nodes[place])
+}
+
+/// The place that a word picks of so many: the word modulo their number.
+fn place_of(word: u32, count: usize) -> Option<usize>
+    ensures none { result ≡ None → count ≡ 0 }
+    ensures place { IfSome result (λ place. place ≡ word % count) }
+    ensures within { IfSome result (λ place. place < count) }
+{
+    match count {
+        0 => None,
+        1 => Some(0),
+        _ => Some(word as usize % count),
     }
-    Some(nodes[word as usize % nodes.len()])
 }
 
 /// The event that a word picks of what a node can do: its step, if it can step, and deliveries from these senders.
@@ -71,11 +82,7 @@ fn choice(node: NodeId, can_step: bool, senders: &[NodeId], word: u32) -> Option
     ensures { result ≡ picked (choices_in can_step node senders.now) word }
 {
     let steps = if can_step { 1 } else { 0 };
-    let count = steps + senders.len();
-    if count == 0 {
-        return None;
-    }
-    let place = word as usize % count;
+    let place = place_of(word, steps + senders.len())?;
     if place < steps {
         return Some(Event::Step { node });
     }
