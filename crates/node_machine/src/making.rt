@@ -94,6 +94,9 @@ fn post(from: NodeId, out: &mut Out, pending: &mut Pending) -> Result<(), NoMemo
     ensures none_sent { OnOk result (out.new.items ≡ []) }
     ensures inboxes { AreInboxes (length pending.old.inboxes) pending.new.inboxes }
 {
+    if out.is_empty() {
+        return Ok(());
+    }
     for (to, msg) in out.drain(..) {
         post_one(from, to, msg, pending)?;
     }
