@@ -1,5 +1,6 @@
 mod Facts
 mod Fits
+mod Made
 pub mod OneLineCaches
 pub mod OneLineDeliver
 pub mod OneLineHappens
