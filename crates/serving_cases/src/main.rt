@@ -16,16 +16,18 @@
 
 mod events;
 mod image;
+mod messages;
+mod numbers;
 mod texts;
 
 ghost use Rattle.std.specs.Prelude.{IfSome};
 ghost use Rattle.sim_base.specs.Settings.{IsChecked};
-ghost use Rattle.control_server.specs.Control.{IsInOrder};
 
 use control_server::Control;
 use elf_image::{World, read_image};
-use events::happens;
+use events::happen;
 use image::FILE;
+use numbers::{number, word};
 use sim_base::Config;
 use std::alloc::{AllocError, Global};
 use std::io;
@@ -42,39 +44,41 @@ fn main(rt: HostRuntime) -> io::Result<()> {
 
 /// The answer to a case.
 fn answer(alloc: Global, line: &str) -> Result<String, AllocError> {
-    let Some((settings, events)) = line.split_once(':') else {
-        return String::from_str(alloc, "no case");
-    };
-    let Some(config) = config_of(settings) else {
-        return String::from_str(alloc, "no settings");
-    };
-    let Ok(image) = read_image(alloc, FILE.as_slice()) else {
-        return String::from_str(alloc, "no image");
-    };
-    let world = World::new(image, config);
-    let Ok(mut control) = Control::new(alloc, &world) else {
-        return String::from_str(alloc, "out of memory");
-    };
-    let events: Vec<&str> = events.split(';').collect(alloc)?;
-    play(alloc, &world, &mut control, events.as_slice())
+    let mut text = String::new(alloc);
+    let (settings, events) = line.split_once(':').unwrap_or((line, ""));
+    match config_of(settings) {
+        Some(config) => push_case(alloc, &mut text, config, events)?,
+        None => text.push_str("no settings")?,
+    }
+    Ok(text)
 }
 
-/// What the control server sends at each event, and how it ends.
-fn play(
+/// Appends what the control server of a machine does.
+fn push_case(
     alloc: Global,
-    world: &World,
-    control: &mut Control,
-    events: &[&str],
-) -> Result<String, AllocError>
-    requires { IsInOrder world.now control.old }
+    text: &mut String,
+    config: Config,
+    events: &str,
+) -> Result<(), AllocError>
+    requires { IsChecked config }
 {
-    let mut text = String::new(alloc);
-    for event in events {
-        text.push_str(happens(alloc, world, control, *event)?.as_str())?;
+    let Ok(image) = read_image(alloc, FILE.as_slice()) else {
+        return text.push_str("no image");
+    };
+    let world = World::new(image, config);
+    play(alloc, text, &world, events)
+}
+
+/// Appends what the control server sends at each event, and how it ends.
+fn play(alloc: Global, text: &mut String, world: &World, events: &str) -> Result<(), AllocError> {
+    let Ok(mut control) = Control::new(alloc, world) else {
+        return text.push_str("out of memory");
+    };
+    for event in events.split(';') {
+        happen(alloc, world, &mut control, event, text)?;
         text.push_str(";")?;
     }
-    push_end(alloc, &mut text, control)?;
-    Ok(text)
+    push_end(alloc, text, &control)
 }
 
 /// The settings with so many tiles and hosts, if they are in range.
@@ -82,13 +86,20 @@ fn config_of(settings: &str) -> Option<Config>
     ensures { IfSome result IsChecked }
 {
     let mut words = settings.split_whitespace();
-    let tiles = words.next()?.parse::<u32>().ok()?;
-    let hosts = words.next()?.parse::<u32>().ok()?;
-    let config = Config {
+    let tiles = word(number(&mut words));
+    let hosts = word(number(&mut words));
+    let config = machine(tiles, hosts);
+    match config.check() {
+        Ok(()) => Some(config),
+        Err(_) => None,
+    }
+}
+
+/// The default settings with so many tiles and hosts.
+fn machine(tiles: u32, hosts: u32) -> Config {
+    Config {
         tiles,
         hosts,
         ..Config::defaults()
-    };
-    config.check().ok()?;
-    Some(config)
+    }
 }
