@@ -1,68 +1,28 @@
-//! Questions on files: are they taken, what do they hold, and what is written for them?
+//! Questions on files: are they taken, or what is their fault?
 
+use crate::base::FILE;
 use elf_image::{ImageRefusal, read_image};
 use std::alloc::{AllocError, Global};
+use std::str::SplitWhitespace;
 
-/// Where the fields of the file header stand in the file, and how many bytes each has.
-static FILE_FIELDS: [(&str, usize, usize); 11] = [
-    ("magic", 0, 4),
-    ("class", 4, 1),
-    ("data", 5, 1),
-    ("version", 6, 1),
-    ("e_type", 16, 2),
-    ("e_machine", 18, 2),
-    ("e_entry", 24, 8),
-    ("e_phoff", 32, 8),
-    ("e_flags", 48, 4),
-    ("e_phentsize", 54, 2),
-    ("e_phnum", 56, 2),
-];
-
-/// Where the program headers stand in the file.
-static HEADERS: [(&str, usize); 4] = [
-    ("attributes", 64),
-    ("code", 120),
-    ("data", 176),
-    ("stack", 232),
-];
-
-/// Where the fields of a program header stand in it, and how many bytes each has.
-static HEADER_FIELDS: [(&str, usize, usize); 6] = [
-    ("p_type", 0, 4),
-    ("p_flags", 4, 4),
-    ("p_offset", 8, 8),
-    ("p_vaddr", 16, 8),
-    ("p_filesz", 32, 8),
-    ("p_memsz", 40, 8),
-];
-
-/// The answer to a question on files; none to any other.
-pub fn about_file(
-    alloc: Global,
-    file: &[u8],
-    question: &str,
-) -> Result<Option<String>, AllocError> {
-    let mut words = question.split_whitespace();
-    match words.next() {
-        Some("image") => {
-            let _name = words.next();
-            let mut changed = file.to_vec(alloc)?;
-            while let Some(field) = words.next() {
-                let value = number(words.next());
-                change(&mut changed, field, value);
-            }
-            Ok(Some(verdict(alloc, changed.as_slice())?))
-        }
-        Some("length") => {
-            let mut changed = file.to_vec(alloc)?;
-            changed.resize(number(words.next()) as usize, 0)?;
-            Ok(Some(verdict(alloc, changed.as_slice())?))
-        }
-        _ => Ok(None),
+/// Whether the file is taken with these fields changed, or its fault.
+pub fn about_changed(alloc: Global, words: &mut SplitWhitespace<'_>) -> Result<String, AllocError> {
+    let mut file = FILE.to_vec(alloc)?;
+    while let Some(field) = words.next() {
+        let value = number(words.next());
+        change(&mut file, field, value);
     }
+    verdict(alloc, file.as_slice())
 }
 
-/// A number in decimal digits, or in hexadecimal ones after `0x`; 0 where it is none.
+/// Whether so many bytes of the file are taken, with zeros past its end, or their fault.
+pub fn about_length(alloc: Global, length: u64) -> Result<String, AllocError> {
+    let mut file = FILE.to_vec(alloc)?;
+    file.resize(length as usize, 0)?;
+    verdict(alloc, file.as_slice())
+}
+
+/// A number, in decimal digits, or in hexadecimal ones after `0x`; 0 where it is none.
 pub fn number(word: Option<&str>) -> u64 {
     let word = word.unwrap_or("");
     let read = match word.strip_prefix("0x") {
@@ -72,37 +32,74 @@ pub fn number(word: Option<&str>) -> u64 {
     read.unwrap_or(0)
 }
 
-/// Changes a field of a file.
+/// Changes a field of a file, if there is one of this name: `e_type`, `code.p_flags`.
 fn change(file: &mut Vec<u8>, field: &str, value: u64) {
-    let Some((place, size)) = place_of(field) else {
-        return;
-    };
-    for (slot, byte) in file
-        .iter_mut()
-        .skip(place)
-        .take(size)
-        .zip(value.to_le_bytes())
-    {
-        *slot = byte;
+    if let Some((place, size)) = place_of(field) {
+        let bytes = value.to_le_bytes();
+        for (slot, byte) in file.iter_mut().skip(place).zip(bytes.iter().take(size)) {
+            *slot = *byte;
+        }
     }
 }
 
-/// Where a field stands in the file, and how many bytes it has: `e_type`, `code.p_flags`.
+/// Where a field stands in the file, and how many bytes it has.
 fn place_of(field: &str) -> Option<(usize, usize)> {
-    let Some((header, rest)) = field.split_once('.') else {
-        let (_, place, size) = FILE_FIELDS.iter().find(|row| row.0 == field)?;
-        return Some((*place, *size));
-    };
-    let (_, start) = HEADERS.iter().find(|row| row.0 == header)?;
-    let (_, place, size) = HEADER_FIELDS.iter().find(|row| row.0 == rest)?;
-    Some((start.saturating_add(*place), *size))
+    match field.split_once('.') {
+        None => file_field(field),
+        Some((header, rest)) => {
+            let (place, size) = header_field(rest)?;
+            Some((place.saturating_add(header_start(header)?), size))
+        }
+    }
+}
+
+/// Where a field of the file header stands in the file, and how many bytes it has.
+fn file_field(name: &str) -> Option<(usize, usize)> {
+    match name {
+        "magic" => Some((0, 4)),
+        "class" => Some((4, 1)),
+        "data" => Some((5, 1)),
+        "version" => Some((6, 1)),
+        "e_type" => Some((16, 2)),
+        "e_machine" => Some((18, 2)),
+        "e_entry" => Some((24, 8)),
+        "e_phoff" => Some((32, 8)),
+        "e_flags" => Some((48, 4)),
+        "e_phentsize" => Some((54, 2)),
+        "e_phnum" => Some((56, 2)),
+        _ => None,
+    }
+}
+
+/// Where a program header stands in the file.
+fn header_start(name: &str) -> Option<usize> {
+    match name {
+        "attributes" => Some(64),
+        "code" => Some(120),
+        "data" => Some(176),
+        "stack" => Some(232),
+        _ => None,
+    }
+}
+
+/// Where a field of a program header stands in it, and how many bytes it has.
+fn header_field(name: &str) -> Option<(usize, usize)> {
+    match name {
+        "p_type" => Some((0, 4)),
+        "p_flags" => Some((4, 4)),
+        "p_offset" => Some((8, 8)),
+        "p_vaddr" => Some((16, 8)),
+        "p_filesz" => Some((32, 8)),
+        "p_memsz" => Some((40, 8)),
+        _ => None,
+    }
 }
 
 /// Whether a file is taken, or its fault.
 fn verdict(alloc: Global, file: &[u8]) -> Result<String, AllocError> {
     match read_image(alloc, file) {
-        Ok(_) => format!(in alloc; "accepted"),
+        Ok(_) => String::from_str(alloc, "accepted"),
         Err(ImageRefusal::Bad { fault }) => format!(in alloc; "{fault:?}"),
-        Err(ImageRefusal::NoMemory) => format!(in alloc; "out of memory"),
+        Err(ImageRefusal::NoMemory) => String::from_str(alloc, "out of memory"),
     }
 }
