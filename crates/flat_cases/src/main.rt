@@ -9,34 +9,66 @@ mod actions;
 mod program;
 mod report;
 
+use elf_image::World;
 use flat_machine::Flat;
-use std::alloc::Global;
+use sim_base::Config;
+use std::alloc::{AllocError, Global};
 use std::io;
 
 fn main(rt: HostRuntime) -> io::Result<()> {
     let alloc = rt.alloc();
     for line in rt.lines(alloc) {
-        let line = line?;
-        if let Some((name, case)) = line.as_str().split_once(':') {
-            println!(rt; "{name}")?;
-            if let Some((code, wanted)) = case.split_once(';') {
-                run(&rt, alloc, code, wanted)?;
-            }
-        }
+        let text = answer(alloc, line?.as_str())?;
+        print!(rt; "{text}")?;
     }
     Ok(())
 }
 
+/// The answer to a line: nothing where it has no colon.
+fn answer(alloc: Global, line: &str) -> Result<String, AllocError> {
+    let mut text = String::new(alloc);
+    if let Some((name, case)) = line.split_once(':') {
+        text.push_str(name)?;
+        text.push_str("\n")?;
+        let (code, wanted) = case.split_once(';').unwrap_or((case, ""));
+        push_case(alloc, &mut text, code, wanted)?;
+    }
+    Ok(text)
+}
+
 /// Runs a case.
-fn run(rt: &impl Print, alloc: Global, code: &str, wanted: &str) -> io::Result<()> {
-    let world = program::world(alloc, code)?;
-    let mut flat = Flat::start(alloc, &world).map_err(program::no_memory)?;
+fn push_case(alloc: Global, text: &mut String, code: &str, wanted: &str) -> Result<(), AllocError> {
+    let Some(image) = program::image(alloc, code)? else {
+        return text.push_str("  no program\n");
+    };
+    let world = World::new(image, Config::defaults());
+    let Ok(mut flat) = Flat::start(alloc, &world) else {
+        return text.push_str("  out of memory\n");
+    };
+    play(alloc, text, &world, &mut flat, wanted)
+}
+
+/// Makes actions, and says which were refused, and how the machine stands where this is asked for and at the end.
+fn play(
+    alloc: Global,
+    text: &mut String,
+    world: &World,
+    flat: &mut Flat,
+    wanted: &str,
+) -> Result<(), AllocError> {
     for word in wanted.split_ascii_whitespace() {
         if word == "?" {
-            report::print(rt, alloc, &flat)?;
-        } else if !actions::make(alloc, &world, &mut flat, word)? {
-            println!(rt; "  {word} is refused")?;
+            report::push(alloc, text, flat)?;
+        } else if !actions::make(alloc, world, flat, word) {
+            push_refused(text, word)?;
         }
     }
-    report::print(rt, alloc, &flat)
+    report::push(alloc, text, flat)
+}
+
+/// Appends that a word was refused.
+fn push_refused(text: &mut String, word: &str) -> Result<(), AllocError> {
+    text.push_str("  ")?;
+    text.push_str(word)?;
+    text.push_str(" is refused\n")
 }

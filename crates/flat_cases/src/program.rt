@@ -2,125 +2,111 @@
 //! between one and the next. A part is made of words: an instruction's hexadecimal digits, `ecall`, or a register with
 //! its number, as `a0=0x11000`, for the two instructions that load it. The segment ends at 0x10900, so the heap is at 0x11000.
 
-use elf_image::{World, read_image};
-use sim_base::Config;
+use elf_image::{Image, read_image};
 use std::alloc::{AllocError, Global};
-use std::io;
-use std::io::{Error, ErrorKind};
 
-/// Where each part ends in the file.
-const ENDS: [usize; 8] = [0x200, 0x300, 0x400, 0x500, 0x600, 0x700, 0x800, 0x900];
+/// The header of an executable for RISC-V with one segment, which is read and executed from 0x10000 on, by the System V
+/// ABI.
+static HEADERS: [u8; 120] = [
+    0x7F, 0x45, 0x4C, 0x46, 2, 1, 1, 0, 0, 0, 0, 0, 0, 0, 0, 0, // e_ident
+    2, 0, 0xF3, 0, 1, 0, 0, 0, // e_type, e_machine, e_version
+    0, 1, 1, 0, 0, 0, 0, 0, // e_entry
+    64, 0, 0, 0, 0, 0, 0, 0, // e_phoff
+    0, 0, 0, 0, 0, 0, 0, 0, // e_shoff
+    5, 0, 0, 0, 64, 0, 56, 0, 1, 0, 0, 0, 0, 0, 0, 0, // e_flags to e_shstrndx
+    1, 0, 0, 0, 5, 0, 0, 0, // p_type, p_flags
+    0, 0, 0, 0, 0, 0, 0, 0, // p_offset
+    0, 0, 1, 0, 0, 0, 0, 0, // p_vaddr
+    0, 0, 1, 0, 0, 0, 0, 0, // p_paddr
+    0, 9, 0, 0, 0, 0, 0, 0, // p_filesz
+    0, 9, 0, 0, 0, 0, 0, 0, // p_memsz
+    0, 0x10, 0, 0, 0, 0, 0, 0, // p_align
+];
 
 /// Where the first part begins in the file.
 const CODE: usize = 0x100;
 
+/// How many bytes each part has.
+const PART: usize = 0x100;
+
+/// Where the last part ends.
+const END: usize = 0x900;
+
 /// The instruction ECALL.
 const ECALL: u32 = 0x0000_0073;
 
-/// The world of a program, with the default settings.
-pub fn world(alloc: Global, code: &str) -> io::Result<World> {
+/// The image of a program.
+pub fn image(alloc: Global, code: &str) -> Result<Option<Image>, AllocError> {
     let file = assembled(alloc, code)?;
-    let image = read_image(alloc, file.as_slice()).map_err(malformed)?;
-    Ok(World::new(image, Config::defaults()))
+    Ok(read_image(alloc, file.as_slice()).ok())
 }
 
 /// The file of a program.
-fn assembled(alloc: Global, code: &str) -> io::Result<Vec<u8>> {
-    let mut file = headers(alloc)?;
-    for (part, end) in code.split('/').zip(ENDS) {
+fn assembled(alloc: Global, code: &str) -> Result<Vec<u8>, AllocError> {
+    let mut file = HEADERS.to_vec(alloc)?;
+    let mut end = CODE;
+    file.resize(end, 0)?;
+    for part in code.split('/') {
         add_part(&mut file, part)?;
+        end = end.saturating_add(PART).min(END);
         file.resize(end, 0)?;
     }
-    file.resize(0x900, 0)?;
+    file.resize(END, 0)?;
     Ok(file)
 }
 
 /// Adds the instructions of a part.
-fn add_part(file: &mut Vec<u8>, part: &str) -> io::Result<()> {
+fn add_part(file: &mut Vec<u8>, part: &str) -> Result<(), AllocError> {
     for word in part.split_ascii_whitespace() {
         match word.split_once('=') {
-            Some((register, value)) => {
-                add_words(file, &load(place_of(register)?, number(value)?))?;
-            }
-            None => add_words(file, &[instruction(word)?])?,
+            Some((register, value)) => add_load(file, place_of(register), number(value))?,
+            None => add(file, instruction(word))?,
         }
     }
     Ok(())
 }
 
-/// The header of an executable for RISC-V with one segment, which is read and executed from 0x10000 on, up to where the
-/// code begins.
-fn headers(alloc: Global) -> Result<Vec<u8>, AllocError> {
-    let mut file = Vec::from_slice(alloc, b"\x7fELF\x02\x01\x01\0\0\0\0\0\0\0\0\0")?;
-    add_words(&mut file, &[0x00F3_0002, 1])?; // e_type, e_machine, e_version
-    add_doubles(&mut file, &[0x10100, 64, 0])?; // e_entry, e_phoff, e_shoff
-    add_words(&mut file, &[5, 0x0038_0040, 1, 0])?; // e_flags, e_ehsize to e_shstrndx
-    add_words(&mut file, &[1, 5])?; // p_type, p_flags
-    add_doubles(&mut file, &[0, 0x10000, 0x10000, 0x900, 0x900, 0x1000])?; // p_offset to p_align
-    file.resize(CODE, 0)?;
-    Ok(file)
-}
-
-/// The instruction that a word names.
-fn instruction(word: &str) -> io::Result<u32> {
+/// The instruction that a word names, or that of no row.
+fn instruction(word: &str) -> u32 {
     if word == "ecall" {
-        Ok(ECALL)
+        ECALL
     } else {
-        u32::from_str_radix(word, 16).map_err(malformed)
+        u32::from_str_radix(word, 16).unwrap_or(0)
     }
 }
 
 /// A register's number, by its name in the calling convention.
-fn place_of(register: &str) -> io::Result<u32> {
+fn place_of(register: &str) -> u32 {
     match register {
-        "t0" => Ok(5),
-        "a0" => Ok(10),
-        "a1" => Ok(11),
-        "a2" => Ok(12),
-        "a3" => Ok(13),
-        "a7" => Ok(17),
-        _ => Err(malformed(())),
+        "t0" => 5,
+        "a0" => 10,
+        "a1" => 11,
+        "a2" => 12,
+        "a3" => 13,
+        "a7" => 17,
+        _ => 0,
     }
 }
 
-/// LUI and ADDI, by which a register has a number of at most 31 bits.
-fn load(register: u32, value: u32) -> [u32; 2] {
+/// Adds LUI and ADDI, by which a register has a number of at most 31 bits.
+fn add_load(file: &mut Vec<u8>, register: u32, value: u32) -> Result<(), AllocError> {
     let rd = register << 7;
     let rs1 = register << 15;
     let high = value.wrapping_add(0x800) & 0xFFFF_F000;
-    [high | (rd | 0x37), value << 20 | (rs1 | (rd | 0x13))]
+    add(file, high | (rd | 0x37))?;
+    add(file, value << 20 | (rs1 | (rd | 0x13)))
 }
 
-/// A number, to the base 16 behind `0x`, else to the base 10.
-pub fn number(word: &str) -> io::Result<u32> {
-    match word.strip_prefix("0x") {
-        Some(digits) => u32::from_str_radix(digits, 16).map_err(malformed),
-        None => word.parse().map_err(malformed),
-    }
+/// Adds an instruction.
+fn add(file: &mut Vec<u8>, instruction: u32) -> Result<(), AllocError> {
+    file.extend_from_slice(&instruction.to_le_bytes())
 }
 
-/// Adds numbers of 4 bytes, little-endian.
-fn add_words(file: &mut Vec<u8>, numbers: &[u32]) -> Result<(), AllocError> {
-    for number in numbers {
-        file.extend_from_slice(&number.to_le_bytes())?;
-    }
-    Ok(())
-}
-
-/// Adds numbers of 8 bytes, little-endian.
-fn add_doubles(file: &mut Vec<u8>, numbers: &[u64]) -> Result<(), AllocError> {
-    for number in numbers {
-        file.extend_from_slice(&number.to_le_bytes())?;
-    }
-    Ok(())
-}
-
-/// That a line doesn't say a case.
-pub fn malformed<E: Drop>(_error: E) -> Error {
-    Error::from(ErrorKind::InvalidInput)
-}
-
-/// That memory ran out.
-pub fn no_memory<E: Drop>(_error: E) -> Error {
-    Error::from(ErrorKind::OutOfMemory)
+/// A number, to the base 16 behind `0x`, else to the base 10; 0 where it is none.
+pub fn number(word: &str) -> u32 {
+    let read = match word.strip_prefix("0x") {
+        Some(digits) => u32::from_str_radix(digits, 16),
+        None => word.parse::<u32>(),
+    };
+    read.unwrap_or(0)
 }
