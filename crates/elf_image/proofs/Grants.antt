@@ -51,8 +51,10 @@ module _ (w : Setup) (a size k : ℕ) (from : a ≤ k) (below : k < a + size) wh
   byte_granted Read e = or_right (is_free w k) (some_reads w.image k) (reads Read (λ s g. g) e)
   byte_granted Write e = or_right (is_free w k) (some_writes w.image k) (writes Write (λ s g. g) e)
   byte_granted ReadWrite e =
-      rw (or_right (is_free w k) (some_reads w.image k) (reads ReadWrite (λ s. and_first (grants_read s) (grants_write s)) e),
-      or_right (is_free w k) (some_writes w.image k) (writes ReadWrite (λ s. and_second (grants_read s) (grants_write s)) e)) refl
+      rw (
+        or_right (is_free w k) (some_reads w.image k) (reads ReadWrite (λ s. and_first (grants_read s) (grants_write s)) e),
+        or_right (is_free w k) (some_writes w.image k) (writes ReadWrite (λ s. and_second (grants_read s) (grants_write s)) e),
+      ) refl
 
 -- each byte of a range has the right
 pub each_granted : (w : Setup) (right : Right) (a size : ℕ) → ((k : ℕ) → a ≤ k → k < a + size → has_right w right k ≡ true) → may w a size right ≡ true

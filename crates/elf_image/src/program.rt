@@ -217,9 +217,8 @@ impl Image {
     pub(crate) fn grants_range(&self, address: u64, size: u64, right: Right) -> bool
         ensures { result ≡ list_any (grants_range right address size) self.now.segments }
     {
-        self.segments
-            .iter()
-            .any(|segment| segment.grants(right) && segment.holds_range(address, size))
+        self.segments.iter().any(|segment| segment.grants(right)
+            && segment.holds_range(address, size))
     }
 
     /// The first executable segment that has the four bytes at an address.
