@@ -11,6 +11,8 @@
 
 mod cases;
 mod events;
+mod machines;
+mod numbers;
 mod programs;
 mod texts;
 

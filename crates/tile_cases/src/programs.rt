@@ -2,7 +2,7 @@
 
 use elf_image::{Image, read_image};
 use sim_base::NoMemory;
-use std::alloc::Global;
+use std::alloc::{AllocError, Global};
 
 /// The headers of a program by the System V ABI: 256 bytes, read and executed, from 0x10000 on, where it is entered, and
 /// 8192 zeros, read and written, from 0x20000 on.
@@ -32,16 +32,19 @@ const HEADERS: [u8; 176] = [
 /// How many bytes the file has.
 const FILE_BYTES: usize = 432;
 
-/// The image of a program of at most 64 words.
+/// The image of a program of at most 64 words. A word that is none counts as 0.
 pub fn image(alloc: Global, words: &str) -> Result<Option<Image>, NoMemory> {
-    let mut file = Vec::new(alloc);
-    file.extend_from_slice(&HEADERS)?;
+    let file = file(alloc, words)?;
+    Ok(read_image(alloc, file.as_slice()).ok())
+}
+
+/// The file of a program.
+fn file(alloc: Global, words: &str) -> Result<Vec<u8>, AllocError> {
+    let mut file = HEADERS.to_vec(alloc)?;
     for word in words.split_whitespace() {
-        let Ok(word) = u32::from_str_radix(word, 16) else {
-            return Ok(None);
-        };
+        let word = u32::from_str_radix(word, 16).unwrap_or(0);
         file.extend_from_slice(&word.to_le_bytes())?;
     }
     file.resize(FILE_BYTES, 0)?;
-    Ok(read_image(alloc, file.as_slice()).ok())
+    Ok(file)
 }
