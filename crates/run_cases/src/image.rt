@@ -1,6 +1,7 @@
-use crate::case::{Case, malformed};
+//! The image of a case: an executable for RISC-V, by the ELF format and the System V ABI.
+
+use crate::words::{number_of, value_of};
 use std::alloc::{AllocError, Global};
-use std::io;
 
 /// Where the code begins in the file, and the text.
 const CODE: usize = 0x120;
@@ -12,7 +13,7 @@ const DATA: usize = 0x190;
 
 /// What an image has beside its code.
 #[derive(Clone, Copy, PartialEq, Eq)]
-pub enum Layout {
+enum Layout {
     /// One segment, that of the code.
     Plain,
     /// One segment, with a text in it.
@@ -24,16 +25,15 @@ pub enum Layout {
     Data,
 }
 
-impl Layout {
-    /// The layout of this name.
-    pub fn named(name: &str) -> io::Result<Layout> {
-        match name {
-            "plain" => Ok(Layout::Plain),
-            "text" => Ok(Layout::Text),
-            "linked" => Ok(Layout::Linked),
-            "data" => Ok(Layout::Data),
-            _ => Err(malformed(())),
-        }
+/// The layout of a case, by the value of `layout`. A case that says how many bytes its data has is one with data.
+fn layout_of(case: &str) -> Layout {
+    if value_of(case, "data").is_some() {
+        return Layout::Data;
+    }
+    match value_of(case, "layout").unwrap_or("plain") {
+        "text" => Layout::Text,
+        "linked" => Layout::Linked,
+        _ => Layout::Plain,
     }
 }
 
@@ -99,94 +99,109 @@ const STACK: Header = Header {
     memory_size: 0,
 };
 
-/// The file of a case's image. Its code stands at 0x10120, where it enters, and `hello` and a newline at 0x10180.
-pub fn file(alloc: Global, case: &Case) -> Result<Vec<u8>, AllocError> {
+/// The file of a case's image. Its code stands at 0x10120, where it enters, and `hello` and a newline at 0x10180. It has
+/// the first bytes alone where the case says `cut`.
+pub fn file(alloc: Global, case: &str) -> Result<Vec<u8>, AllocError> {
+    let layout = layout_of(case);
     let mut file = Vec::new(alloc);
-    match case.layout {
-        Layout::Plain => add_headers(&mut file, &[code_header(case.flags, 0x164)])?,
-        Layout::Text => add_headers(&mut file, &[code_header(case.flags, 0x190)])?,
-        Layout::Data => add_headers(
-            &mut file,
-            &[code_header(case.flags, 0x164), zeros_header(case.data)],
-        )?,
-        Layout::Linked => add_headers(
-            &mut file,
-            &[
-                ATTRIBUTES,
-                code_header(case.flags, 0x190),
-                DATA_HEADER,
-                STACK,
-            ],
-        )?,
-    }
+    push_headers(&mut file, case, layout)?;
     file.resize(CODE, 0)?;
-    for word in &case.code {
-        file.extend_from_slice(&word.to_le_bytes())?;
-    }
-    if case.layout == Layout::Plain || case.layout == Layout::Data {
-        file.resize(0x164, 0)?;
-    } else {
-        file.resize(TEXT, 0)?;
-        file.extend_from_slice(b"hello\n")?;
-        file.resize(DATA, 0)?;
-    }
-    if case.layout == Layout::Linked {
-        file.extend_from_slice(&[42, 0, 0, 0])?;
-    }
-    if let Some(len) = case.cut {
-        file.truncate(len);
-    }
+    push_code(&mut file, case)?;
+    push_rest(&mut file, layout)?;
+    file.truncate(number_of(case, "cut", u64::MAX) as usize);
     Ok(file)
 }
 
-/// Adds the header of an executable for RISC-V and its program headers.
-fn add_headers(file: &mut Vec<u8>, headers: &[Header]) -> Result<(), AllocError> {
-    let count = u16::try_from(headers.len()).unwrap_or(u16::MAX);
-    file.extend_from_slice(b"\x7FELF\x02\x01\x01\0\0\0\0\0\0\0\0\0")?;
-    add_halves(file, &[2, 0xF3])?; // e_type, e_machine
-    add_words(file, &[1])?; // e_version
-    add_doubles(file, &[0x10120, 64, 0])?; // e_entry, e_phoff, e_shoff
-    add_words(file, &[5])?; // e_flags
-    // e_ehsize, e_phentsize, e_phnum, e_shentsize, e_shnum, e_shstrndx
-    add_halves(file, &[64, 56, count, 0, 0, 0])?;
-    for header in headers {
-        add_words(file, &[header.kind, header.flags])?;
-        let alignment = 0x1000;
-        add_doubles(
-            file,
-            &[
-                header.offset,
-                header.address,
-                header.address,
-                header.file_size,
-                header.memory_size,
-                alignment,
-            ],
-        )?;
+/// Adds the instruction words of a case.
+fn push_code(file: &mut Vec<u8>, case: &str) -> Result<(), AllocError> {
+    for word in case.split_ascii_whitespace() {
+        if let Ok(instruction) = u32::from_str_radix(word, 16) {
+            push_word(file, instruction)?;
+        }
     }
     Ok(())
 }
 
-/// Adds numbers of 2 bytes.
-fn add_halves(file: &mut Vec<u8>, numbers: &[u16]) -> Result<(), AllocError> {
-    for number in numbers {
-        file.extend_from_slice(&number.to_le_bytes())?;
+/// Adds what stands behind the code.
+fn push_rest(file: &mut Vec<u8>, layout: Layout) -> Result<(), AllocError> {
+    match layout {
+        Layout::Plain | Layout::Data => file.resize(0x164, 0),
+        Layout::Text => push_text(file),
+        Layout::Linked => {
+            push_text(file)?;
+            push_word(file, 42)
+        }
     }
-    Ok(())
 }
 
-/// Adds numbers of 4 bytes.
-fn add_words(file: &mut Vec<u8>, numbers: &[u32]) -> Result<(), AllocError> {
-    for number in numbers {
-        file.extend_from_slice(&number.to_le_bytes())?;
-    }
-    Ok(())
+/// Adds the text, at its place.
+fn push_text(file: &mut Vec<u8>) -> Result<(), AllocError> {
+    file.resize(TEXT, 0)?;
+    file.extend_from_slice(b"hello\n")?;
+    file.resize(DATA, 0)
 }
 
-/// Adds numbers of 8 bytes.
-fn add_doubles(file: &mut Vec<u8>, numbers: &[u64]) -> Result<(), AllocError> {
-    for number in numbers {
-        file.extend_from_slice(&number.to_le_bytes())?;
+/// Adds the headers of a layout.
+fn push_headers(file: &mut Vec<u8>, case: &str, layout: Layout) -> Result<(), AllocError> {
+    let flags = number_of(case, "flags", 5).min(7) as u32;
+    match layout {
+        Layout::Plain => {
+            push_file_header(file, 1)?;
+            push_header(file, &code_header(flags, 0x164))
+        }
+        Layout::Text => {
+            push_file_header(file, 1)?;
+            push_header(file, &code_header(flags, 0x190))
+        }
+        Layout::Data => {
+            push_file_header(file, 2)?;
+            push_header(file, &code_header(flags, 0x164))?;
+            push_header(file, &zeros_header(number_of(case, "data", 0)))
+        }
+        Layout::Linked => {
+            push_file_header(file, 4)?;
+            push_header(file, &ATTRIBUTES)?;
+            push_header(file, &code_header(flags, 0x190))?;
+            push_header(file, &DATA_HEADER)?;
+            push_header(file, &STACK)
+        }
     }
-    Ok(())
+}
+
+/// The header of an executable for RISC-V, up to how many program headers there are.
+static FILE_HEADER: [u8; 56] = [
+    0x7F, 0x45, 0x4C, 0x46, 2, 1, 1, 0, 0, 0, 0, 0, 0, 0, 0, 0, // e_ident
+    2, 0, 0xF3, 0, 1, 0, 0, 0, // e_type, e_machine, e_version
+    0x20, 1, 1, 0, 0, 0, 0, 0, // e_entry
+    64, 0, 0, 0, 0, 0, 0, 0, // e_phoff
+    0, 0, 0, 0, 0, 0, 0, 0, // e_shoff
+    5, 0, 0, 0, 64, 0, 56, 0, // e_flags, e_ehsize, e_phentsize
+];
+
+/// Adds the file header for so many program headers.
+fn push_file_header(file: &mut Vec<u8>, count: u64) -> Result<(), AllocError> {
+    file.extend_from_slice(&FILE_HEADER)?;
+    push_double(file, count) // e_phnum, e_shentsize, e_shnum, e_shstrndx
+}
+
+/// Adds a program header.
+fn push_header(file: &mut Vec<u8>, header: &Header) -> Result<(), AllocError> {
+    push_word(file, header.kind)?;
+    push_word(file, header.flags)?;
+    push_double(file, header.offset)?;
+    push_double(file, header.address)?;
+    push_double(file, header.address)?;
+    push_double(file, header.file_size)?;
+    push_double(file, header.memory_size)?;
+    push_double(file, 0x1000) // p_align
+}
+
+/// Adds a number of 4 bytes.
+fn push_word(file: &mut Vec<u8>, number: u32) -> Result<(), AllocError> {
+    file.extend_from_slice(&number.to_le_bytes())
+}
+
+/// Adds a number of 8 bytes.
+fn push_double(file: &mut Vec<u8>, number: u64) -> Result<(), AllocError> {
+    file.extend_from_slice(&number.to_le_bytes())
 }

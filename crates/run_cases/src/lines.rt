@@ -1,62 +1,55 @@
-ghost use Rattle.std.specs.Prelude.{IfOk};
-ghost use Rattle.sim_base.specs.Settings.{IsChecked};
+//! Who holds a line amid a run.
 
-use crate::case::{Case, malformed, no_memory};
-use crate::image;
+use crate::words::journal_bytes;
+use crate::worlds::world;
 use coherence_laws::{Held, holders};
-use elf_image::{World, read_image};
-use event_journal::Event;
+use elf_image::World;
+use event_journal::{Event, Journal};
 use journal_file::read_journal;
 use node_machine::Core;
-use sim_base::{Config, Line};
-use sim_config::config_of;
+use sim_base::Line;
 use std::alloc::Global;
 use std::io;
 
-/// Makes the first events of a case's journal, so many, and prints who holds a line then.
-pub fn hold(
-    rt: &impl Print,
-    alloc: Global,
-    case: &Case,
-    line: Line,
-    events: usize,
-) -> io::Result<()> {
-    let held = held_amid(alloc, case, line, events)?;
+/// Prints who holds a line after the first events of a case's journal, so many: both are in the value `LINE@EVENTS`.
+pub fn hold(rt: &impl Print, alloc: Global, case: &str, value: &str) -> io::Result<()> {
+    let (line, events) = value.split_once('@').unwrap_or((value, "0"));
+    let line = line.parse::<u64>().unwrap_or(0);
+    let events = events.parse::<usize>().unwrap_or(0);
+    match held_amid(alloc, case, line, events) {
+        Some(held) => print(rt, held),
+        None => println!(rt; "no such state"),
+    }
+}
+
+/// Prints who holds a line.
+fn print(rt: &impl Print, held: Held) -> io::Result<()> {
     let writer = held.writer;
     let readers = held.readers;
     println!(rt; "writer {writer:?}, readers {readers}")
 }
 
 /// Who holds a line after the first events of a case's journal, so many.
-fn held_amid(alloc: Global, case: &Case, line: Line, events: usize) -> io::Result<Held> {
-    let file = image::file(alloc, case)?;
-    let image = read_image(alloc, file.as_slice()).map_err(malformed)?;
-    let target = World::new(image, settings(alloc, case)?);
-    let journal = read_journal(alloc, case.journal_bytes()).map_err(malformed)?;
-    let Some(first) = journal.events.get(..events) else {
-        return Err(malformed(()));
-    };
-    held_after(alloc, &target, first, line)
+fn held_amid(alloc: Global, case: &str, line: Line, events: usize) -> Option<Held> {
+    let journal = journal(alloc, case)?;
+    let target = world(alloc, case)?;
+    held_after(alloc, &target, journal.events.get(..events)?, line)
+}
+
+/// The journal of a case.
+fn journal(alloc: Global, case: &str) -> Option<Journal> {
+    let bytes = journal_bytes(alloc, case).ok()?;
+    read_journal(alloc, bytes.as_slice()).ok()
 }
 
 /// Who holds a line after these events.
-fn held_after(alloc: Global, target: &World, events: &[Event], line: Line) -> io::Result<Held> {
-    let mut core = Core::start(alloc, target).map_err(no_memory)?;
+fn held_after(alloc: Global, target: &World, events: &[Event], line: Line) -> Option<Held> {
+    let mut core = Core::start(alloc, target).ok()?;
     for event in events {
-        core.apply(alloc, target, *event).map_err(malformed)?;
+        core.apply(alloc, target, *event).ok()?;
     }
     if core.tiles() > 256 {
-        return Err(malformed(()));
+        return None;
     }
-    Ok(holders(&core, line))
-}
-
-/// The settings of a case.
-fn settings(alloc: Global, case: &Case) -> io::Result<Config>
-    ensures { IfOk result IsChecked }
-{
-    match &case.settings {
-        Some(settings) => config_of(alloc, settings.as_bytes()).map_err(malformed),
-        None => Ok(Config::defaults()),
-    }
+    Some(holders(&core, line))
 }
