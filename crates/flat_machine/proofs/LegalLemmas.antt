@@ -197,3 +197,9 @@ alone_is w s t one here = legal_is w s ∙ by_threads s.threads one here where
 
 pub not_alone : (w : Setup) (s : State) → (length s.threads ≡ 1 → ⊥) → legal_action w s ≡ None
 not_alone w s other = none_there w s (grind (arith, nat_tests))
+
+-- a ready thread goes on, unless at a store-conditional
+pub goes_ready : (w : Setup) (t : Thread) (ended : Option End) (s : Status) (rd : Option ℕ) → s ≡ Ready → rd ≡ conditional_rd (step_of w 0 t) → is_some rd ≡ false
+    → Some (Exec 0) ≡ action_by w t ended s
+goes_ready w t ended s None ready found none = rw ready (ap exec_unless found)
+goes_ready w t ended s (Some rd) ready found none = cc

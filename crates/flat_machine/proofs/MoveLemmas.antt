@@ -1,14 +1,18 @@
 -- A move of one thread is a move of the machine.
-use Rattle.std.proofs.Common.{◌≡◌, ℕ, Bool, true, false, List, set, refl, sym, ap, ◌∙◌}
-use Rattle.std.specs.Prelude.{Option, Some, None, Result, Ok, Err, slice_get, slice_set, option_and_then}
+use Rattle.std.proofs.Common.{◌≡◌, ℕ, ◌+◌, ◌%◌, ◌^◌, ◌<◌, ◌≤◌, Bool, true, false, List, [], ◌∷◌, ◌++◌, length, set, refl, sym, ap, ◌∙◌, arith}
+use Rattle.std.specs.Prelude.{Option, Some, None, Result, Ok, Err, nat_lt, slice_get, slice_set, option_and_then}
 use Rattle.std.proofs.lemmas.Option.{get_or_from_slice_get}
 use Rattle.std.proofs.lemmas.List.{set-get_or}
 use Rattle.flat_machine.specs.declared.machine.ActFault.{ActFault}
 use Rattle.flat_machine.specs.declared.machine.ActFault.TheVariants.{NotLegal, NoMemory}
 use Rattle.flat_machine.specs.declared.threads.Thread.{Thread}
+use Rattle.std.proofs.lemmas.Bool.Decides.{nat_tests}
+use Rattle.flat_machine.specs.declared.threads.Status.{Status}
+use Rattle.flat_machine.specs.declared.threads.Status.TheVariants.{Writing}
+use Rattle.flat_machine.specs.Memory.{byte_at}
 use Rattle.flat_machine.specs.State.{State, with_thread}
 use Rattle.elf_image.specs.Layout.{Setup}
-use Rattle.flat_machine.specs.Action.{executed, with_instruction, with_move, is_vacant, begun, begun_by}
+use Rattle.flat_machine.specs.Action.{executed, loaded_by, with_instruction, with_move, is_vacant, begun, begun_by}
 use Rattle.std.specs.Ordering.{nat_cmp}
 use Rattle.std.specs.FinMap.{FinMap}
 use Rattle.std.specs.Option.{option_map}
@@ -65,3 +69,18 @@ pub was_executed : (w : Setup) (s : State) (number : ℕ) (old thread : Thread) 
     → slice_get s.threads number ≡ Some old → Executes (Ok written) s.memory memory old thread (executed w s.memory number old)
     → with_instruction w s number ≡ Some (record s { memory = memory; threads = others_end written (slice_set s.threads number thread) number })
 was_executed w s number old thread memory written here h = rw here (rw h refl)
+
+-- a thread reads the next byte of its write
+pub not_writing : (memory : FinMap nat_cmp ℕ) (t : Thread) (s : Status) → ((addr len : ℕ) (bytes : List ℕ) → s ≡ Writing addr len bytes → ⊥) → loaded_by memory t s ≡ None
+not_writing memory t (Writing addr len bytes) other = absurd (other addr len bytes refl)
+not_writing memory t _ other = refl
+
+pub all_read : (memory : FinMap nat_cmp ℕ) (t : Thread) (s : Status) (addr len read : ℕ) (bytes : List ℕ) → s ≡ Writing addr len bytes → read ≡ length bytes → len ≤ read
+    → loaded_by memory t s ≡ None
+all_read memory t s addr len read bytes writes counted none_left =
+    let full : nat_lt (length bytes) len ≡ false = grind (arith, nat_tests) in rw (writes, full) refl
+
+pub next_read : (memory : FinMap nat_cmp ℕ) (t : Thread) (s : Status) (addr len read byte : ℕ) (bytes new : List ℕ) → s ≡ Writing addr len bytes → read ≡ length bytes → read < len
+    → byte ≡ byte_at memory ((addr + read) % 2 ^ 64) → new ≡ bytes ++ byte ∷ [] → loaded_by memory t s ≡ Some (record t { status = Writing addr len new })
+next_read memory t s addr len read byte bytes new writes counted left fed put =
+    let some_left : nat_lt (length bytes) len ≡ true = grind (arith, nat_tests) in rw (writes, some_left, put, fed, counted) refl

@@ -131,6 +131,11 @@ pub write_made : (s : State) (number : ℕ) (bytes : List ℕ) → concluded s n
 unfolding after_serving
 write_made s number bytes = rw (append-nil, same_fates) refl
 
+pub write_shown : (v s : State) → v ≡ s → (number value : ℕ) (bytes output : List ℕ) (new : State) → new ≡ record v { threads = with_status v.threads number (Answered value); output = output }
+    → value ≡ write_answer v.output bytes → output ≡ output_with v.output bytes
+    → new ≡ record s { threads = with_status s.threads number (Answered (write_answer s.output bytes)); output = output_with s.output bytes }
+write_shown v s is number value bytes output new made answered put = rw (made, answered, put, ← is) refl
+
 pub brk_made : (w : Setup) (s : State) (number addr : ℕ) → concluded s number (brk_served w (control_of s) addr)
     ≡ record s { threads = with_status s.threads number (Answered (break_after w s.heap_break addr)); heap_break = break_after w s.heap_break addr }
 unfolding after_serving
