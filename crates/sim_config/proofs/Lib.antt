@@ -1,3 +1,4 @@
+pub mod Arguments
 pub mod Cuts
 pub mod Names
 pub mod Numerals
