@@ -1,82 +1,110 @@
 //! Instructions as an assembler writes them.
 
+use crate::texts::push;
 use rv_decode::{Instr, Op};
 use std::alloc::{AllocError, Global};
 
-/// An instruction's text, with registers by their numbers and no shorter names for frequent forms.
-pub fn listing(alloc: Global, instr: &Instr) -> Result<String, AllocError> {
+/// Appends an instruction's text, with registers by their numbers and no shorter names for frequent forms.
+pub fn push_listing(alloc: Global, text: &mut String, instr: &Instr) -> Result<(), AllocError> {
     match *instr {
         Instr::Upper { op, rd, imm } => {
-            let (name, bits) = (name(op), imm >> 12 & 0xf_ffff);
-            format!(in alloc; "{name} x{rd}, {bits}")
+            push(alloc, text, name(op), " x", i64::from(rd))?;
+            push(alloc, text, "", ", ", (imm >> 12 & 0xf_ffff).cast_signed())
         }
         Instr::Jal { rd, imm } => {
-            let offset = imm.cast_signed();
-            format!(in alloc; "jal x{rd}, {offset}")
+            push(alloc, text, "jal", " x", i64::from(rd))?;
+            push(alloc, text, "", ", ", imm.cast_signed())
         }
-        Instr::Jalr { rd, rs1, imm } => moved(alloc, "jalr", rd, rs1, imm),
-        Instr::Branch { op, rs1, rs2, imm } => constant(alloc, name(op), rs1, rs2, imm),
-        Instr::Load { op, rd, rs1, imm } => moved(alloc, name(op), rd, rs1, imm),
-        Instr::Store { op, rs1, rs2, imm } => moved(alloc, name(op), rs2, rs1, imm),
-        Instr::Imm { op, rd, rs1, imm } => constant(alloc, name(op), rd, rs1, imm),
+        Instr::Jalr { rd, rs1, imm } => push_moved(alloc, text, "jalr", rd, rs1, imm),
+        Instr::Branch { op, rs1, rs2, imm } => {
+            push_constant(alloc, text, name(op), rs1, rs2, imm.cast_signed())
+        }
+        Instr::Load { op, rd, rs1, imm } => push_moved(alloc, text, name(op), rd, rs1, imm),
+        Instr::Store { op, rs1, rs2, imm } => push_moved(alloc, text, name(op), rs2, rs1, imm),
+        Instr::Imm { op, rd, rs1, imm } => {
+            push_constant(alloc, text, name(op), rd, rs1, imm.cast_signed())
+        }
         Instr::Shift {
             op,
             rd,
             rs1,
             amount,
-        } => constant(alloc, name(op), rd, rs1, u64::from(amount)),
+        } => push_constant(alloc, text, name(op), rd, rs1, i64::from(amount)),
         Instr::Reg { op, rd, rs1, rs2 } => {
-            let name = name(op);
-            format!(in alloc; "{name} x{rd}, x{rs1}, x{rs2}")
+            push_registers(alloc, text, name(op), rd, rs1)?;
+            push(alloc, text, "", ", x", i64::from(rs2))
         }
-        Instr::Atomic { .. } => atomic(alloc, instr),
-        Instr::Fence { rd, rs1, imm } => constant(alloc, "fence", rd, rs1, imm),
-        Instr::Ecall => String::from_str(alloc, "ecall"),
-        Instr::Ebreak => String::from_str(alloc, "ebreak"),
+        Instr::Atomic { .. } => push_atomic(alloc, text, instr),
+        Instr::Fence { rd, rs1, imm } => {
+            push_constant(alloc, text, "fence", rd, rs1, imm.cast_signed())
+        }
+        Instr::Ecall => text.push_str("ecall"),
+        Instr::Ebreak => text.push_str("ebreak"),
     }
 }
 
-/// A register, and an address by another one and a signed offset.
-fn moved(alloc: Global, name: &str, first: u8, base: u8, imm: u64) -> Result<String, AllocError> {
-    let offset = imm.cast_signed();
-    format!(in alloc; "{name} x{first}, {offset}(x{base})")
-}
-
-/// Two registers, and a signed number.
-fn constant(
+/// Appends a name and two registers.
+fn push_registers(
     alloc: Global,
+    text: &mut String,
     name: &str,
     first: u8,
     second: u8,
-    imm: u64,
-) -> Result<String, AllocError> {
-    let number = imm.cast_signed();
-    format!(in alloc; "{name} x{first}, x{second}, {number}")
+) -> Result<(), AllocError> {
+    push(alloc, text, name, " x", i64::from(first))?;
+    push(alloc, text, "", ", x", i64::from(second))
 }
 
-/// An atomic, with its width and its order behind its name.
-fn atomic(alloc: Global, instr: &Instr) -> Result<String, AllocError> {
-    match *instr {
-        Instr::Atomic {
-            op,
-            wide,
-            rd,
-            rs1,
-            rs2,
-            aq,
-            rl,
-        } => {
-            let name = name(op);
-            let width = if wide { "d" } else { "w" };
-            let order = order(aq, rl);
-            if op == Op::Lr {
-                format!(in alloc; "{name}.{width}{order} x{rd}, (x{rs1})")
-            } else {
-                format!(in alloc; "{name}.{width}{order} x{rd}, x{rs2}, (x{rs1})")
-            }
+/// Appends a name, a register, and an address by another one and a signed offset.
+fn push_moved(
+    alloc: Global,
+    text: &mut String,
+    name: &str,
+    first: u8,
+    base: u8,
+    imm: u64,
+) -> Result<(), AllocError> {
+    push(alloc, text, name, " x", i64::from(first))?;
+    push(alloc, text, "", ", ", imm.cast_signed())?;
+    push(alloc, text, "", "(x", i64::from(base))?;
+    text.push_str(")")
+}
+
+/// Appends a name, two registers, and a signed number.
+fn push_constant(
+    alloc: Global,
+    text: &mut String,
+    name: &str,
+    first: u8,
+    second: u8,
+    number: i64,
+) -> Result<(), AllocError> {
+    push_registers(alloc, text, name, first, second)?;
+    push(alloc, text, "", ", ", number)
+}
+
+/// Appends an atomic, with its width and its order behind its name.
+fn push_atomic(alloc: Global, text: &mut String, instr: &Instr) -> Result<(), AllocError> {
+    if let Instr::Atomic {
+        op,
+        wide,
+        rd,
+        rs1,
+        rs2,
+        aq,
+        rl,
+    } = *instr
+    {
+        text.push_str(name(op))?;
+        text.push_str(if wide { ".d" } else { ".w" })?;
+        push(alloc, text, order(aq, rl), " x", i64::from(rd))?;
+        if op != Op::Lr {
+            push(alloc, text, "", ", x", i64::from(rs2))?;
         }
-        _ => String::from_str(alloc, "no atomic"),
+        push(alloc, text, "", ", (x", i64::from(rs1))?;
+        text.push_str(")")?;
     }
+    Ok(())
 }
 
 /// Whether an atomic acquires and releases.

@@ -8,6 +8,7 @@
 
 mod answers;
 mod listing;
+mod texts;
 
 use std::io;
 
