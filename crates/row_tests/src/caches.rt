@@ -1,7 +1,7 @@
 ghost use Rattle.std.specs.Prelude.{◌≤◌};
 
-use sim_base::{Line, LineData};
-use std::test::Fail;
+use sim_base::{Line, LineData, NoMemory};
+use std::alloc::Global;
 use tile_cache::{Cache, Hold};
 
 /// A call of a cache.
@@ -123,33 +123,59 @@ fn are_written(cache: &mut Cache) -> bool {
     is_right
 }
 
-#[test]
-fn the_least_recent_of_four_has_to_leave(rt: HostRuntime) -> Result<(), Fail> {
-    let mut cache = Cache::new(rt.alloc(), 1, 4)?;
+/// Whether the least recent of four has to leave.
+fn least_recent_leaves(alloc: Global) -> Result<bool, NoMemory> {
+    let mut cache = Cache::new(alloc, 1, 4)?;
     let is_right = leave_in_order(&mut cache);
-    assert!(rt; is_right && cache.victim(4).is_none());
-    Ok(())
+    Ok(is_right && cache.victim(4).is_none())
 }
 
 #[test]
-fn lines_lie_in_their_own_sets(rt: HostRuntime) -> Result<(), Fail> {
-    let mut cache = Cache::new(rt.alloc(), 3, 1)?;
+fn the_least_recent_of_four_has_to_leave(rt: HostRuntime) {
+    let is_right = least_recent_leaves(rt.alloc()).unwrap_or(false);
+    assert!(rt; is_right);
+}
+
+/// Whether the sets that lines 6 and 4 lie in are full, and that of line 5 isn't.
+fn are_full(cache: &Cache) -> bool {
+    cache.victim(6) == Some((3, Hold::S))
+        && cache.victim(4) == Some((7, Hold::M))
+        && cache.victim(5).is_none()
+}
+
+/// Whether each of three lines lies in its own set.
+fn lie_apart(alloc: Global) -> Result<bool, NoMemory> {
+    let mut cache = Cache::new(alloc, 3, 1)?;
     let are_held = are_held(&mut cache);
-    let victims = [cache.victim(6), cache.victim(4), cache.victim(5)];
-    let are_full = victims == [Some((3, Hold::S)), Some((7, Hold::M)), None];
-    assert!(rt; are_held && are_full);
-    Ok(())
+    Ok(are_held && are_full(&cache))
 }
 
 #[test]
-fn writes_are_little_endian_at_their_offset(rt: HostRuntime) -> Result<(), Fail> {
-    let mut cache = Cache::new(rt.alloc(), 2, 4)?;
+fn lines_lie_in_their_own_sets(rt: HostRuntime) {
+    let is_right = lie_apart(rt.alloc()).unwrap_or(false);
+    assert!(rt; is_right);
+}
+
+/// A cache in which each byte of line 5 is 0x11.
+fn with_line_5(alloc: Global) -> Result<Cache, NoMemory> {
+    let mut cache = Cache::new(alloc, 2, 4)?;
     if cache.victim(5).is_none() {
         cache.place(5, Hold::M, LineData { bytes: [0x11; 64] });
     }
+    Ok(cache)
+}
+
+/// Whether line 5 has the numbers of the rows, the others around them stay, and it is there to be dropped.
+fn are_little_endian(alloc: Global) -> Result<bool, NoMemory> {
+    let mut cache = with_line_5(alloc)?;
     let are_written = are_written(&mut cache);
-    let around = [number_at(&cache, 0), number_at(&cache, 16)];
-    let is_there = around == [Some(0x1111_1111_1111_1111), Some(0x1111_1111_0000_0000)];
-    assert!(rt; are_written && is_there && cache.drop_line(5).is_some());
-    Ok(())
+    let before = number_at(&cache, 0) == Some(0x1111_1111_1111_1111);
+    let behind = number_at(&cache, 16) == Some(0x1111_1111_0000_0000);
+    Ok(are_written && before && behind && cache.drop_line(5).is_some())
+}
+
+#[test]
+fn writes_are_little_endian_at_their_offset(rt: HostRuntime) {
+    let is_right = are_little_endian(rt.alloc()).unwrap_or(false);
+    assert!(rt; is_right);
 }

@@ -74,8 +74,14 @@ fn an_atomic_gives_the_old_number(rt: HostRuntime) {
     assert!(rt; is_done);
 }
 
+/// The class of a word.
+fn class_of(word: u32) -> Option<CostClass> {
+    let instr = decode(word)?;
+    Some(class(&instr))
+}
+
 #[test]
 fn remuw_costs_as_a_division(rt: HostRuntime) {
-    let class = decode(0x0220_f1bb).map(|instr| class(&instr)); // remuw x3, x1, x2
-    assert!(rt; class == Some(CostClass::Div));
+    let is_division = class_of(0x0220_f1bb) == Some(CostClass::Div); // remuw x3, x1, x2
+    assert!(rt; is_division);
 }

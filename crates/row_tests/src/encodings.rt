@@ -4,6 +4,12 @@
 use rv_decode::decode;
 use rv_encode::encode;
 
+/// The word of a decoded word.
+fn encoded_again(word: u32) -> Option<u32> {
+    let instr = decode(word)?;
+    Some(encode(&instr))
+}
+
 #[test]
 fn a_decoded_word_is_encoded_as_itself(rt: HostRuntime) {
     let words = [
@@ -16,8 +22,7 @@ fn a_decoded_word_is_encoded_as_itself(rt: HostRuntime) {
         0x0010_0073, // ebreak
     ];
     for word in words {
-        let again = decode(word).map(|instr| encode(&instr));
-        let is_itself = again == Some(word);
+        let is_itself = encoded_again(word) == Some(word);
         assert!(rt; is_itself, "{word:#010x}");
     }
 }

@@ -1,10 +1,9 @@
-ghost use Rattle.std.specs.Prelude.{◌≡◌, IfOk};
+ghost use Rattle.std.specs.Prelude.{◌≡◌, IfSome};
 
 use dir_slice::Dir;
 use elf_image::{World, read_image};
 use sim_base::{Config, LineData, NoMemory, NodeId};
 use std::alloc::Global;
-use std::test::Fail;
 use wire_msg::{Msg, Out};
 
 /// A program of one instruction, `ecall`, at 0x100C0: the first word of line 1027, whose home is tile 3 of 4.
@@ -142,13 +141,13 @@ static RUNS: [Run; 4] = [
 ];
 
 /// The slice of tile 3 of 4, before the program runs.
-fn slice(alloc: Global) -> Result<Dir, Fail>
-    ensures tile { IfOk result (λ dir. dir.tile ≡ 3) }
-    ensures tiles { IfOk result (λ dir. dir.tiles ≡ 4) }
+fn slice(alloc: Global) -> Option<Dir>
+    ensures tile { IfSome result (λ dir. dir.tile ≡ 3) }
+    ensures tiles { IfSome result (λ dir. dir.tiles ≡ 4) }
 {
-    let image = read_image(alloc, &FILE)?;
+    let image = read_image(alloc, &FILE).ok()?;
     let world = World::new(image, Config::defaults());
-    Ok(Dir::new(alloc, &world, 3)?)
+    Dir::new(alloc, &world, 3).ok()
 }
 
 /// What a message says of the line.
@@ -176,31 +175,18 @@ fn tell(alloc: Global, dir: &mut Dir, told: Told, out: &mut Out) -> Result<(), N
         Told::GetM(from) if from <= 4 => dir.request(alloc, &config, from, LINE, true, out),
         Told::GetS(_) | Told::GetM(_) => Ok(()),
         Told::Ack(from) => dir.ack(alloc, &config, from, LINE, out),
-        Told::Fetched(from, byte) => {
-            dir.fetched(
-                alloc,
-                &config,
-                from,
-                LINE,
-                &LineData { bytes: [byte; 64] },
-                out,
-            )
-        }
-        Told::Put(from, byte) => {
-            dir.put(
-                alloc,
-                &config,
-                from,
-                LINE,
-                &LineData { bytes: [byte; 64] },
-                out,
-            )
-        }
+        Told::Fetched(from, byte) => { dir.fetched(alloc, &config, from, LINE, &filled(byte), out) }
+        Told::Put(from, byte) => dir.put(alloc, &config, from, LINE, &filled(byte), out),
     }
 }
 
+/// A line of this byte.
+fn filled(byte: u8) -> LineData {
+    LineData { bytes: [byte; 64] }
+}
+
 /// Whether the home sends what is said.
-fn sends(alloc: Global, dir: &mut Dir, told: Told, said: &[Said]) -> Result<bool, Fail>
+fn sends(alloc: Global, dir: &mut Dir, told: Told, said: &[Said]) -> Result<bool, NoMemory>
     requires tile { dir.old.tile ≡ 3 }
     requires tiles { dir.old.tiles ≡ 4 }
     ensures tile { dir.new.tile ≡ 3 }
@@ -208,28 +194,41 @@ fn sends(alloc: Global, dir: &mut Dir, told: Told, said: &[Said]) -> Result<bool
 {
     let mut out: Out = Vec::new(alloc);
     tell(alloc, dir, told, &mut out)?;
-    let all: Vec<Said> = out
-        .iter()
-        .map(|(to, msg)| in_short(*to, msg))
-        .collect(alloc)?;
+    let all = all_in_short(alloc, &out)?;
     Ok(all.as_slice() == said)
 }
 
+/// What messages say of the line.
+fn all_in_short(alloc: Global, out: &Out) -> Result<Vec<Said>, NoMemory> {
+    let mut all = Vec::new(alloc);
+    for (to, msg) in out {
+        all.push(in_short(*to, msg))?;
+    }
+    Ok(all)
+}
+
 /// Whether the home sends what a run says, and has its last byte.
-fn goes_as(alloc: Global, run: &Run) -> Result<bool, Fail> {
-    let mut dir = slice(alloc)?;
+fn goes_as(alloc: Global, dir: &mut Dir, run: &Run) -> Result<bool, NoMemory>
+    requires tile { dir.old.tile ≡ 3 }
+    requires tiles { dir.old.tiles ≡ 4 }
+{
     let mut is_right = true;
     for &(told, said) in run.rows {
-        is_right = is_right && sends(alloc, &mut dir, told, said)?;
+        is_right = is_right && sends(alloc, dir, told, said)?;
     }
     Ok(is_right && dir.memory(LINE).bytes[0] == run.last)
 }
 
+/// Whether a new home goes as a run says.
+fn starts_as(alloc: Global, run: &Run) -> Option<bool> {
+    let mut dir = slice(alloc)?;
+    goes_as(alloc, &mut dir, run).ok()
+}
+
 #[test]
-fn homes_follow_the_table(rt: HostRuntime) -> Result<(), Fail> {
+fn homes_follow_the_table(rt: HostRuntime) {
     for run in &RUNS {
-        let is_right = goes_as(rt.alloc(), run)?;
+        let is_right = starts_as(rt.alloc(), run).unwrap_or(false);
         assert!(rt; is_right, "{}", run.name);
     }
-    Ok(())
 }

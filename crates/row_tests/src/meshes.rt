@@ -10,9 +10,11 @@ fn machine(tiles: u32, hosts: u32) -> Config {
     }
 }
 
-/// The default settings with other costs.
-fn costs(call_cost: u64, spawn_cost: u64, hop_cost: u64) -> Config {
+/// The default settings with other numbers of tiles and hosts, and other costs of a call, a thread's start and a hop.
+fn costly(tiles: u32, hosts: u32, call_cost: u64, spawn_cost: u64, hop_cost: u64) -> Config {
     Config {
+        tiles,
+        hosts,
         call_cost,
         spawn_cost,
         hop_cost,
@@ -91,18 +93,21 @@ fn dearest_of(config: &Config) -> Option<u64> {
     Some(dearest(config))
 }
 
+/// Machines, by their tiles and hosts and their costs of a call, a thread's start and a hop, with the dearest step.
+static DEAREST: [(u32, u32, u64, u64, u64, u64); 5] = [
+    (4, 1, 20, 100, 2, 102), // 20 + 4 * 2 * 2 + 6 + 60
+    (64, 8, 20, 100, 2, 198), // 20 + 4 * 14 * 2 + 6 + 60
+    (1, 1, 20, 100, 2, 100), // a thread's start
+    (4, 1, 1000, 100, 2, 1000), // a call
+    (4, 1, 20, 100, 1_000_000, 8_000_086), // 20 + 4 * 2 * 1,000,000 + 6 + 60
+];
+
 #[test]
 fn the_dearest_step(rt: HostRuntime) {
-    let rows = [
-        (machine(4, 1), Some(102)), // 20 + 4 * 2 * 2 + 6 + 60
-        (machine(64, 8), Some(198)), // 20 + 4 * 14 * 2 + 6 + 60
-        (machine(1, 1), Some(100)), // a thread's start
-        (costs(1000, 100, 2), Some(1000)), // a call
-        (costs(20, 100, 1_000_000), Some(8_000_086)), // 20 + 4 * 2 * 1,000,000 + 6 + 60
-    ];
-    for (config, cycles) in rows {
-        let is_dearest = dearest_of(&config) == cycles;
-        assert!(rt; is_dearest, "{cycles:?}");
+    for &(tiles, hosts, call_cost, spawn_cost, hop_cost, cycles) in &DEAREST {
+        let config = costly(tiles, hosts, call_cost, spawn_cost, hop_cost);
+        let is_dearest = dearest_of(&config) == Some(cycles);
+        assert!(rt; is_dearest, "{cycles}");
     }
 }
 

@@ -1,8 +1,7 @@
 ghost use Rattle.sim_base.specs.Settings.{IsChecked};
 
-use sim_base::{Cause, Config, NodeId};
+use sim_base::{Cause, Config, NoMemory, NodeId};
 use std::alloc::Global;
-use std::test::Fail;
 use wire_msg::{Bytes, Call, LineData, Msg};
 
 /// Pairs of nodes, each with its letter, where tiles 0 to 3 go round two hosts. Node 4 is the control server, nodes 5
@@ -30,11 +29,22 @@ static ROUTES: [&str; 19] = [
 ];
 
 /// A message of each kind, those about lines about line 5.
-fn message(alloc: Global, kind: usize) -> Result<Msg, Fail> {
-    let line = 5;
-    let content = LineData { bytes: [9; 64] };
-    let (thread, time, limit) = (7, 1200, 2000);
-    Ok(match kind {
+fn message(alloc: Global, kind: usize) -> Result<Msg, NoMemory> {
+    match kind {
+        0..=9 => Ok(line_message(kind, 5, LineData { bytes: [9; 64] })),
+        10 => Ok(Msg::Call {
+            thread: 7,
+            time: 1200,
+            call: written(alloc)?,
+        }),
+        _ => Ok(thread_message(kind, 7, 1200, 2000)),
+    }
+}
+
+/// A message about a line.
+fn line_message(kind: usize, line: u64, content: LineData) -> Msg {
+    let delay = 78;
+    match kind {
         0 => Msg::GetS { line },
         1 => Msg::GetM { line },
         2 => Msg::PutM { line, content },
@@ -43,21 +53,22 @@ fn message(alloc: Global, kind: usize) -> Result<Msg, Fail> {
         5 => Msg::DataS {
             line,
             content,
-            delay: 78,
+            delay,
         },
         6 => Msg::DataM {
             line,
             content,
-            delay: 78,
+            delay,
         },
         7 => Msg::Inv { line },
         8 => Msg::Fetch { line },
-        9 => Msg::FetchInv { line },
-        10 => Msg::Call {
-            thread,
-            time,
-            call: written(alloc)?,
-        },
+        _ => Msg::FetchInv { line },
+    }
+}
+
+/// A message about a thread or a clock.
+fn thread_message(kind: usize, thread: u32, time: u64, limit: u64) -> Msg {
+    match kind {
         11 => Msg::Return {
             value: 3,
             time,
@@ -85,19 +96,19 @@ fn message(alloc: Global, kind: usize) -> Result<Msg, Fail> {
         17 => Msg::Probe,
         _ => Msg::ProbeReply {
             running: true,
-            clock: 1200,
+            clock: time,
         },
-    })
+    }
 }
 
-fn written(alloc: Global) -> Result<Call, Fail> {
+fn written(alloc: Global) -> Result<Call, NoMemory> {
     let mut bytes = Bytes::new(alloc, 3)?;
     bytes.extend(b"abc")?;
     Ok(Call::Write { bytes })
 }
 
 /// The letters of the pairs between which a message may go.
-fn letters(alloc: Global, msg: &Msg, config: &Config) -> Result<Vec<u8>, Fail>
+fn letters(alloc: Global, msg: &Msg, config: &Config) -> Result<Vec<u8>, NoMemory>
     requires { IsChecked config.now }
 {
     let mut found = Vec::new(alloc);
@@ -110,7 +121,7 @@ fn letters(alloc: Global, msg: &Msg, config: &Config) -> Result<Vec<u8>, Fail>
 }
 
 /// Whether a message of a kind may go between these pairs alone.
-fn goes_between(alloc: Global, config: &Config, kind: usize, wanted: &str) -> Result<bool, Fail>
+fn goes_between(alloc: Global, config: &Config, kind: usize, wanted: &str) -> Result<bool, NoMemory>
     requires { IsChecked config.now }
 {
     let msg = message(alloc, kind)?;
@@ -118,24 +129,43 @@ fn goes_between(alloc: Global, config: &Config, kind: usize, wanted: &str) -> Re
     Ok(found.as_slice() == wanted.as_bytes())
 }
 
-#[test]
-fn messages_go_between_these(rt: HostRuntime) -> Result<(), Fail> {
-    let config = Config {
+/// The default settings with two hosts.
+fn two_hosts() -> Config
+    ensures { IsChecked result }
+{
+    Config {
         hosts: 2,
         ..Config::defaults()
-    };
+    }
+}
+
+/// Whether the messages go between their pairs alone.
+fn go_as_said(alloc: Global, config: &Config) -> Result<bool, NoMemory>
+    requires { IsChecked config.now }
+{
     let mut are_wanted = true;
     for (kind, &wanted) in ROUTES.iter().enumerate() {
-        are_wanted = are_wanted && goes_between(rt.alloc(), &config, kind, wanted)?;
+        are_wanted = are_wanted && goes_between(alloc, config, kind, wanted)?;
     }
+    Ok(are_wanted)
+}
+
+#[test]
+fn messages_go_between_these(rt: HostRuntime) {
+    let are_wanted = go_as_said(rt.alloc(), &two_hosts()).unwrap_or(false);
     assert!(rt; are_wanted);
+}
+
+/// Copies a message of each kind.
+fn copy_all(alloc: Global) -> Result<(), NoMemory> {
+    for kind in 0..19 {
+        let _copy = message(alloc, kind)?.copy(alloc)?;
+    }
     Ok(())
 }
 
 #[test]
-fn each_message_has_a_copy(rt: HostRuntime) -> Result<(), Fail> {
-    for kind in 0..19 {
-        let _copy = message(rt.alloc(), kind)?.copy(rt.alloc())?;
-    }
-    Ok(())
+fn each_message_has_a_copy(rt: HostRuntime) {
+    let have_copies = copy_all(rt.alloc()).is_ok();
+    assert!(rt; have_copies);
 }

@@ -15,44 +15,51 @@ enum Changed {
 }
 
 fn settings(changed: Changed) -> Config {
-    let given = Config::defaults();
     match changed {
-        Changed::Nothing => given,
-        Changed::Machine(tiles, hosts, sets, ways) => {
-            Config {
-                tiles,
-                hosts,
-                sets,
-                ways,
-                ..given
-            }
-        }
-        Changed::Memory(stack_bytes, heap_bytes) => {
-            Config {
-                stack_bytes,
-                heap_bytes,
-                ..given
-            }
-        }
-        Changed::Costs(alu_cost, amo_cost, call_cost, memory_cost) => {
-            Config {
-                alu_cost,
-                amo_cost,
-                call_cost,
-                memory_cost,
-                ..given
-            }
-        }
-        Changed::Pace(quantum, slack, interval, events) => {
-            Config {
-                quantum,
-                slack,
-                interval,
-                events,
-                seed: 18_446_744_073_709_551_615,
-                ..given
-            }
-        }
+        Changed::Nothing => Config::defaults(),
+        Changed::Machine(tiles, hosts, sets, ways) => machine(tiles, hosts, sets, ways),
+        Changed::Memory(stack_bytes, heap_bytes) => memory(stack_bytes, heap_bytes),
+        Changed::Costs(alu, amo, call, memory) => costs(alu, amo, call, memory),
+        Changed::Pace(quantum, slack, interval, events) => pace(quantum, slack, interval, events),
+    }
+}
+
+fn machine(tiles: u32, hosts: u32, sets: u32, ways: u32) -> Config {
+    Config {
+        tiles,
+        hosts,
+        sets,
+        ways,
+        ..Config::defaults()
+    }
+}
+
+fn memory(stack_bytes: u64, heap_bytes: u64) -> Config {
+    Config {
+        stack_bytes,
+        heap_bytes,
+        ..Config::defaults()
+    }
+}
+
+fn costs(alu_cost: u64, amo_cost: u64, call_cost: u64, memory_cost: u64) -> Config {
+    Config {
+        alu_cost,
+        amo_cost,
+        call_cost,
+        memory_cost,
+        ..Config::defaults()
+    }
+}
+
+fn pace(quantum: u64, slack: u64, interval: u64, events: u32) -> Config {
+    Config {
+        quantum,
+        slack,
+        interval,
+        events,
+        seed: 18_446_744_073_709_551_615,
+        ..Config::defaults()
     }
 }
 
@@ -107,11 +114,7 @@ fn the_first_setting_out_of_its_range_is_named(rt: HostRuntime) {
 /// The host of a node and the tile at whose place it stands, on a machine of 5 tiles and 2 hosts: nodes 0 to 4 are
 /// tiles, 5 is the control server, 6 and 7 are the local servers of hosts 0 and 1.
 fn placed(node: NodeId) -> Option<(u32, NodeId)> {
-    let config = Config {
-        tiles: 5,
-        hosts: 2,
-        ..Config::defaults()
-    };
+    let config = machine(5, 2, 16, 4);
     config.check().ok()?;
     if u32::from(node) < config.nodes() {
         Some((config.host_of(node), config.place_of(node)))
