@@ -7,3 +7,5 @@ for name in parallel_sum mutex_counter barrier_phases producer_consumer litmus; 
 done
 ./tilecc -s -o false_sharing/packed.elf false_sharing/false_sharing.c
 ./tilecc -s -DPADDED -o false_sharing/padded.elf false_sharing/false_sharing.c
+./tilecc -s -o matrix_product/in_turn.elf matrix_product/matrix_product.c
+./tilecc -s -DBLOCKED -o matrix_product/blocked.elf matrix_product/matrix_product.c

@@ -27,6 +27,8 @@ IMAGES = {
     "litmus/litmus.elf": 4,
     "false_sharing/packed.elf": 4,
     "false_sharing/padded.elf": 4,
+    "matrix_product/in_turn.elf": 1,
+    "matrix_product/blocked.elf": 1,
 }
 TILES = (2, 4, 16)
 POLICIES = (
