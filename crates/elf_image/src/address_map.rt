@@ -7,6 +7,7 @@ ghost use Rattle.elf_image.specs.Layout.{layout_of, IsLaidOut, stack_end, last_e
 ghost use Rattle.sim_base.specs.Settings.{IsChecked};
 
 use crate::program::{Image, Segment};
+use divisors::Divisor;
 use rv_decode::Instr;
 use sim_base::{Config, Line, LineData, NodeId};
 use std::marker::Model;
@@ -52,16 +53,19 @@ pub struct World {
     image: Image,
     config: Config,
     layout: Layout,
+    stride: Divisor,
 }
 
 impl Model for World {
+    ghost use Rattle.std.specs.Prelude.{◌≡◌, ◌+◌};
     ghost use Rattle.elf_image.specs.Layout.{Setup, IsLaidOut};
 
     ghost Value = { Setup };
 
     ghost view = { λ w. record { image = w.image; config = w.config } };
 
-    ghost invariant = { λ w. IsLaidOut (record { image = w.image; config = w.config }) w.layout };
+    ghost invariant = { λ w.
+        IsLaidOut (record { image = w.image; config = w.config }) w.layout × (w.stride ≡ w.config.stack_bytes + 4096) };
 }
 
 impl World {
@@ -71,10 +75,12 @@ impl World {
         ensures { result ≡ record { image = image; config = config } }
     {
         let layout = layout_for(&image, &config);
+        let stride = stride_of(&config);
         World {
             image,
             config,
             layout,
+            stride,
         }
     }
 
@@ -253,14 +259,22 @@ impl World {
             return 0;
         }
         let stack = self.config.stack_bytes;
-        let tile = (address - base) / (stack + PAGE);
-        let place = (address - base) % (stack + PAGE);
+        let tile = self.stride.quotient(address - base);
+        let place = self.stride.remainder(address - base);
         if tile < self.config.tiles as u64 && place < stack {
             stack - place
         } else {
             0
         }
     }
+}
+
+/// How many bytes lie from a stack's start to the next one's.
+fn stride_of(config: &Config) -> Divisor
+    requires { IsChecked config.now }
+    ensures { result ≡ config.now.stack_bytes + 4096 }
+{
+    Divisor::new((config.stack_bytes + PAGE) as u32)
 }
 
 /// The layout of a program under these settings.

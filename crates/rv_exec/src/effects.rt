@@ -2,7 +2,7 @@ ghost use Rattle.std.specs.Prelude.{◌≡◌, ◌<◌, ◌%◌, ◌==◌, IsTru
 ghost use Rattle.rv_decode.specs.Valid.{IsValid, is_load, is_store, is_atomic};
 ghost use Rattle.sim_base.specs.declared.ends.Cause.TheVariants.{LoadMisaligned, StoreMisaligned};
 ghost use Rattle.rv_exec.specs.Arithmetic.{even_address};
-ghost use Rattle.rv_exec.specs.Access.{load_of, store_of, atomic_of, size_of, is_signed};
+ghost use Rattle.rv_exec.specs.Access.{load_of, store_of, atomic_of, size_of, is_size, is_signed};
 ghost use Rattle.rv_exec.specs.Effect.{effect_of, jump, advance, access_or_trap, misaligned_atomic, HasRegister, HasAccess};
 
 use crate::access::{Access, AccessOp};
@@ -195,12 +195,18 @@ fn cause_of_misaligned_atomic(op: Op) -> Cause
     }
 }
 
-/// Whether an address is a multiple of a size.
+/// Whether an address is a multiple of an access's size.
 fn is_multiple(addr: u64, size: u8) -> bool
-    requires { 0 < size }
+    requires { IsTrue (is_size size) }
     ensures { result ≡ addr % size == 0 }
 {
-    addr % u64::from(size) == 0
+    match size {
+        1 => true,
+        2 => addr % 2 == 0,
+        4 => addr % 4 == 0,
+        8 => addr % 8 == 0,
+        _ => unreachable!(),
+    }
 }
 
 /// An address with its bit 0 cleared.

@@ -5,6 +5,7 @@ ghost use Rattle.tile_cache.specs.Cache.{IsCache, set_number, set_of, empty_cach
 
 use crate::set::Set;
 use crate::ways::{Hold, Way};
+use divisors::Divisor;
 use sim_base::{Line, LineData, NoMemory};
 use std::alloc::Global;
 use std::marker::Model;
@@ -16,9 +17,11 @@ use std::marker::Model;
 pub struct Cache {
     ways: u32,
     sets: Vec<Set>,
+    count: Divisor,
 }
 
 impl Model for Cache {
+    ghost use Rattle.std.specs.Prelude.{◌≡◌, length};
     ghost use Rattle.tile_cache.specs.Cache.{Sets};
 
     ghost Value = { Sets };
@@ -27,7 +30,7 @@ impl Model for Cache {
 
     ghost view = { λ c. cache_of c.ways c.sets.items };
 
-    ghost invariant = { λ c. IsKept c.ways c.sets.items };
+    ghost invariant = { λ c. IsKept c.ways c.sets.items × (c.count ≡ length c.sets.items) };
 }
 
 impl Cache {
@@ -37,8 +40,9 @@ impl Cache {
         requires some_way { 0 < ways }
         ensures { IfOk result (λ cache. cache ≡ empty_cache sets ways) }
     {
+        let count = Divisor::new(sets);
         let sets = empty_sets(alloc, sets, ways)?;
-        Ok(Cache { ways, sets })
+        Ok(Cache { ways, sets, count })
     }
 
     /// How a line is held, if it is there.
@@ -142,7 +146,7 @@ impl Cache {
         ensures number { result ≡ set_number self.now line }
         ensures within { result < length self.now.sets }
     {
-        (line % self.sets.len() as u64) as usize
+        self.count.remainder(line) as usize
     }
 
     /// A line's set.
@@ -159,6 +163,7 @@ impl Cache {
 fn empty_sets(alloc: Global, sets: u32, ways: u32) -> Result<Vec<Set>, NoMemory>
     requires some_set { 0 < sets }
     requires some_way { 0 < ways }
+    ensures count { IfOk result (λ made. length made.items ≡ sets) }
     ensures kept { IfOk result (λ made. IsKept ways made.items) }
     ensures empty { IfOk result (λ made. cache_of ways made.items ≡ empty_cache sets ways) }
 {

@@ -20,7 +20,7 @@ returns-in_err-journal-in-Replay-clause-stage g c =
     (subst (λ faults. Accepts {A = List Event} (g.F.Files.holds c.machine_of.new.files) faults (g.F.Files.read_faults c.journal_in.new.files) c.as_str.result.now
     reading journal_refusal (Err c.in_err-journal-in-Replay.field-0.0)) c.in_ok-world.ensures.stage.0 c.in_err-journal-in-Replay.ensures.accepts) in
     rw is (journal_halt (g.F.Files.holds c.args.files.now) (g.F.Files.read_faults c.args.files.now) (g.F.Files.read_faults c.journal_in.new.files) c.args.request.now
-    c.in_ok-world.world c.in_ok-world.ensures.stage.1 (subst (λ w. IsChecked w.config) c.world.view_is c.world.invariant.checked) c.as_str.result.now named c.in_err-journal-in-Replay.field-0.0 accepts)
+    c.in_ok-world.world c.in_ok-world.ensures.stage.1 (subst (λ w. IsChecked w.config) c.world.view_is c.world.invariant.0.checked) c.as_str.result.now named c.in_err-journal-in-Replay.field-0.0 accepts)
 
 pub returns-clause-stage : goal.returns-clause-stage
 returns-clause-stage g c =
@@ -28,7 +28,7 @@ returns-clause-stage g c =
     subst (λ holds. ReadsAs holds c.as_str.result.now reading (Ok c.in_ok-journal-in-Replay.journal)) c.in_ok-world.ensures.kept c.in_ok-journal-in-Replay.ensures.accepts.1 in
     let is : c.args.request.now ≡ Replay c.in-Replay.image c.as_str.result.now c.in-Replay.config c.in-Replay.seed = search rules in
     followed_stage (g.F.Files.holds c.args.files.now) (g.F.Files.read_faults c.args.files.now) (g.F.Files.read_faults c.journal_in.new.files) c.args.request.now
-    c.in_ok-world.world c.in_ok-world.ensures.stage.1 (subst (λ w. IsChecked w.config) c.world.view_is c.world.invariant.checked) c.in-Replay.image c.as_str.result.now c.in-Replay.config c.in-Replay.seed c.in_ok-journal-in-Replay.journal is
+    c.in_ok-world.world c.in_ok-world.ensures.stage.1 (subst (λ w. IsChecked w.config) c.world.view_is c.world.invariant.0.checked) c.in-Replay.image c.as_str.result.now c.in-Replay.config c.in-Replay.seed c.in_ok-journal-in-Replay.journal is
     (c.in_ok-journal-in-Replay.ensures.accepts.0 ∙ c.in_ok-world.ensures.stage.0) said c.follow.result c.follow.ensures
 
 pub returns-in-Run-clause-stage : goal.returns-in-Run-clause-stage
@@ -36,7 +36,7 @@ returns-in-Run-clause-stage g c =
     let holds = g.F.Files.holds c.args.files.now in
     let before = g.F.Files.read_faults c.args.files.now in
     let now = g.F.Files.read_faults c.machine_of.new.files in
-    let checked : IsChecked c.in_ok-world.world.config = subst (λ w. IsChecked w.config) c.world.view_is c.world.invariant.checked in
+    let checked : IsChecked c.in_ok-world.world.config = subst (λ w. IsChecked w.config) c.world.view_is c.world.invariant.0.checked in
     elim c.in-Run.is [
       | inl (image, config, seed, journal, is) ↦
           drawn_stage holds before now c.args.request.now c.in_ok-world.world c.in_ok-world.ensures.stage.1 checked image config seed journal is c.in_ok-world.ensures.stage.0 c.draw.result c.draw.ensures
