@@ -1,0 +1,4 @@
+pub mod Sets
+pub mod Ranges
+mod Held
+mod Counts
