@@ -4,7 +4,6 @@ pub mod StartLemmas
 pub mod MailLemmas
 pub mod MadeLemmas
 pub mod ApplyLemmas
-pub mod NodeSetLemmas
 pub mod PendingLemmas
 mod TrappingWords
 mod TrappingTiles

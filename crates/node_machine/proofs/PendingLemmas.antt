@@ -1,95 +1,27 @@
 -- Who waits and who can act, after one list of messages or one node has changed.
-use Rattle.std.proofs.Common.{◌≡◌, ℕ, ◌+◌, ◌<◌, ◌≤◌, Bool, true, false, cond, List, [], ◌∷◌, ◌++◌, length, get_or, set, map, replicate, drop, Ordering, Less, Equal, Greater, Global, deque_len, Result, Ok, Err, refl, sym, ap, ◌∙◌, subst, arith, zero, suc, inl, inr, if◌then◌else◌}
-use Rattle.std.specs.Prelude.{not, ◌==◌, ◌||◌, OnErr, filter, All}
+use Rattle.std.proofs.Common.{◌≡◌, ℕ, ◌<◌, Bool, true, false, cond, List, [], ◌∷◌, ◌++◌, length, get_or, set, map, replicate, drop, Global, deque_len, Result, Ok, Err, refl, sym, ap, ◌∙◌, subst, arith, inl, inr, if◌then◌else◌}
+use Rattle.std.specs.Prelude.{not, ◌==◌, ◌||◌, nat_lt, OnErr, filter}
 use Rattle.std.specs.List.{range_with_len}
-use Rattle.std.specs.Ordering.{nat_cmp, match_ordering}
-use Rattle.std.specs.BTreeSet.{insert_key}
-use Rattle.std.proofs.lemmas.Bool.{ne_eqb, cases_lt, cases_Bool, eqb-true, eqb-false, false≢true}
+use Rattle.std.proofs.lemmas.Bool.{cases_lt, cases_Bool, eqb-true, eqb-false, false≢true}
 use Rattle.std.proofs.lemmas.List.{length-set, get_or-set_same, get_or-set_other, get_or-replicate, get_or_past, length-replicate, get_or-map, map-set, set-get_or}
-use Rattle.std.proofs.lemmas.List.Elements.{All-nil, All-cons, All-head, All-tail, All-filter, filter_agree}
+use Rattle.std.proofs.lemmas.List.Elements.{filter_agree}
 use Rattle.event_journal.specs.State.{is_empty}
 use Rattle.event_journal.proofs.Queues.{is_empty-length}
 use Rattle.std.specs.declared.collections.VecDeque.{VecDeque}
 use Rattle.wire_msg.specs.declared.messages.Msg.{Msg}
-use Rattle.node_machine.specs.NodeSet.{with_node, without_node}
+use Rattle.node_set.specs.NodeSet.{with_node, without}
 use Rattle.node_machine.specs.Pending.{Inbox, PendingData, queue_from, senders_in, with_queue_from, inbox_of, can_act_in, acting_in, rest_of}
-use Rattle.node_machine.proofs.NodeSetLemmas.{is_less, is_equal, is_greater}
-
--- the numbers from one on are no lower
-pub range_above : (low n : ℕ) → All (λ x. low ≤ x) (range_with_len low n)
-range_above low zero = All-nil (λ x. low ≤ x)
-range_above low (suc n) = All-cons (λ x. low ≤ x) low (range_with_len (low + 1) n) (omega arith) (λ k d l. let h : low + 1 ≤ get_or (range_with_len (low + 1) n) k d = range_above (low + 1) n k d l in omega arith)
-
--- a number below all others goes to the front
-insert_below : (xs : List ℕ) (k : ℕ) → All (λ x. k < x) xs → insert_key nat_cmp xs k ≡ k ∷ xs
-insert_below [] k above = refl
-insert_below (x ∷ xs) k above = rw (is_less k x (All-head (λ y. k < y) x xs above)) refl
-
--- two tests that agree above a number keep the same of what is above
-filter_above : (p q : ℕ → Bool) (k : ℕ) → ((i : ℕ) → (i == k) ≡ false → q i ≡ p i) → (xs : List ℕ) → All (λ x. k < x) xs → filter p xs ≡ filter q xs
-filter_above p q k same [] above = refl
-filter_above p q k same (x ∷ xs) above =
-    let l : k < x = All-head (λ y. k < y) x xs above in
-    let e : q x ≡ p x = same x (ne_eqb x k (λ h. absurd (omega arith))) in
-    rw e (ap (λ ys. cond (p x) (x ∷ ys) ys) (filter_above p q k same xs (All-tail (λ y. k < y) x xs above)))
-
--- what passes from one number on, where that number passes now
-at_start : (p q : ℕ → Bool) (k : ℕ) → ((i : ℕ) → (i == k) ≡ false → q i ≡ p i) → (n : ℕ) (b : Bool) → with_node k (cond b (k ∷ filter p (range_with_len (k + 1) n)) (filter p (range_with_len (k + 1) n))) ≡ k ∷ filter q (range_with_len (k + 1) n)
-at_start p q k same n true =
-    let above : All (λ x. k < x) (range_with_len (k + 1) n) = λ i d l. let h : k + 1 ≤ get_or (range_with_len (k + 1) n) i d = range_above (k + 1) n i d l in omega arith in
-    rw (is_equal k k refl) (ap (λ ys. k ∷ ys) (filter_above p q k same (range_with_len (k + 1) n) above))
-at_start p q k same n false =
-    let above : All (λ x. k < x) (range_with_len (k + 1) n) = λ i d l. let h : k + 1 ≤ get_or (range_with_len (k + 1) n) i d = range_above (k + 1) n i d l in omega arith in
-    insert_below (filter p (range_with_len (k + 1) n)) k (All-filter p (λ x. k < x) (range_with_len (k + 1) n) above) ∙ ap (λ ys. k ∷ ys) (filter_above p q k same (range_with_len (k + 1) n) above)
-
--- what passes from a lower number on
-past_start : (xs ys : List ℕ) (k low : ℕ) → low < k → with_node k xs ≡ ys → (b : Bool) → with_node k (cond b (low ∷ xs) xs) ≡ cond b (low ∷ ys) ys
-past_start xs ys k low h e true = rw (is_greater k low h) (ap (λ zs. low ∷ zs) e)
-past_start xs ys k low h e false = e
+use Rattle.node_set.proofs.Ranges.{filter_with, filter_without}
 
 -- a test that no number passes
 pub nothing : (p : ℕ → Bool) (xs : List ℕ) → ((i : ℕ) → p i ≡ false) → filter p xs ≡ []
 nothing p [] none = refl
 nothing p (x ∷ xs) none = rw (none x) (nothing p xs none)
 
--- one number more passes
-pub filter_with : (p q : ℕ → Bool) (k : ℕ) → ((i : ℕ) → (i == k) ≡ false → q i ≡ p i) → q k ≡ true → (low n : ℕ) → low ≤ k → k < low + n → with_node k (filter p (range_with_len low n)) ≡ filter q (range_with_len low n)
-filter_with p q k same passes low zero l m = absurd (omega arith)
-filter_with p q k same passes low (suc n) l m =
-    let again = filter_with p q k same passes (low + 1) n in
-    elim (cases_lt low k) [
-      | inl h ↦
-          let e : q low ≡ p low = same low (ne_eqb low k (λ s. absurd (omega arith))) in
-          past_start _ _ k low h (again (omega arith) (omega arith)) (p low) ∙ ap (λ b. cond b (low ∷ filter q (range_with_len (low + 1) n)) (filter q (range_with_len (low + 1) n))) (sym e)
-      | inr h ↦
-          let e : k ≡ low = omega arith in
-          subst (λ (i : ℕ). with_node k (filter p (range_with_len i (suc n))) ≡ filter q (range_with_len i (suc n))) e (at_start p q k same n (p k) ∙ ap (λ b. cond b (k ∷ filter q (range_with_len (k + 1) n)) (filter q (range_with_len (k + 1) n))) (sym passes))
-    ]
-
-without_that : (xs : List ℕ) (k x : ℕ) → (x == k) ≡ true → (b : Bool) → without_node k (cond b (x ∷ xs) xs) ≡ without_node k xs
-without_that xs k x e true = rw e refl
-without_that xs k x e false = refl
-
-without_another : (xs : List ℕ) (k x : ℕ) → (x == k) ≡ false → (b : Bool) → without_node k (cond b (x ∷ xs) xs) ≡ cond b (x ∷ without_node k xs) (without_node k xs)
-without_another xs k x e true = rw e refl
-without_another xs k x e false = refl
-
--- one number fewer passes
-pub filter_without : (p q : ℕ → Bool) (k : ℕ) → ((i : ℕ) → (i == k) ≡ false → q i ≡ p i) → q k ≡ false → (xs : List ℕ) → without_node k (filter p xs) ≡ filter q xs
-filter_without p q k same fails [] = refl
-filter_without p q k same fails (x ∷ xs) =
-    let again = filter_without p q k same fails xs in
-    elim (cases_Bool (x == k)) [
-      | inl e ↦
-          without_that (filter p xs) k x e (p x) ∙ again ∙ ap (λ b. cond b (x ∷ filter q xs) (filter q xs)) (sym (ap q (eqb-true x k e) ∙ fails))
-      | inr e ↦
-          without_another (filter p xs) k x e (p x) ∙ ap (λ ys. cond (p x) (x ∷ ys) ys) again ∙ ap (λ b. cond b (x ∷ filter q xs) (filter q xs)) (sym (same x e))
-    ]
-
 -- the same number passes or not, as a flag says
-pub filter_put : (p q : ℕ → Bool) (k n : ℕ) (b : Bool) → ((i : ℕ) → (i == k) ≡ false → q i ≡ p i) → b ≡ q k → (q k ≡ true → k < n) → (if b then with_node k (filter p (range_with_len 0 n)) else without_node k (filter p (range_with_len 0 n))) ≡ filter q (range_with_len 0 n)
-filter_put p q k n true same e within = filter_with p q k same (sym e) 0 n (omega arith) (omega (arith, within (sym e)))
-filter_put p q k n false same e within = filter_without p q k same (sym e) (range_with_len 0 n)
+pub filter_put : (p q : ℕ → Bool) (k n : ℕ) (b : Bool) → ((i : ℕ) → (i == k) ≡ false → q i ≡ p i) → b ≡ q k → (q k ≡ true → k < n) → (if b then with_node k (filter p (range_with_len 0 n)) else without k (filter p (range_with_len 0 n))) ≡ filter q (range_with_len 0 n)
+filter_put p q k n true same e within = sym (filter_with p q k same (sym e) 0 n (omega arith) (omega (arith, within (sym e))))
+filter_put p q k n false same e within = sym (filter_without p q k same (sym e) (range_with_len 0 n))
 
 -- Inboxes
 
@@ -101,17 +33,17 @@ elsewhere xs i k a d e = get_or-set_other xs k i a d (eqb-false i k e)
 pub senders_with : (inbox : Inbox) (from : ℕ) (messages : List Msg) → from < length inbox → is_empty messages ≡ false → with_node from (senders_in inbox) ≡ senders_in (with_queue_from inbox from messages)
 senders_with inbox from messages l e =
     let new = with_queue_from inbox from messages in
-    rw (length-set inbox from messages) (filter_with (λ i. not (is_empty (queue_from inbox i))) (λ i. not (is_empty (queue_from new i))) from
+    rw (length-set inbox from messages) (sym (filter_with (λ i. not (is_empty (queue_from inbox i))) (λ i. not (is_empty (queue_from new i))) from
     (λ i other. ap (λ queue. not (is_empty queue)) (elsewhere inbox i from messages [] other))
-    (ap (λ queue. not (is_empty queue)) (get_or-set_same inbox from messages [] l) ∙ ap not e) 0 (length inbox) (omega arith) (omega arith))
+    (ap (λ queue. not (is_empty queue)) (get_or-set_same inbox from messages [] l) ∙ ap not e) 0 (length inbox) (omega arith) (omega arith)))
 
 -- no message from a sender waits
-pub senders_without : (inbox : Inbox) (from : ℕ) (messages : List Msg) → from < length inbox → is_empty messages ≡ true → without_node from (senders_in inbox) ≡ senders_in (with_queue_from inbox from messages)
+pub senders_without : (inbox : Inbox) (from : ℕ) (messages : List Msg) → from < length inbox → is_empty messages ≡ true → without from (senders_in inbox) ≡ senders_in (with_queue_from inbox from messages)
 senders_without inbox from messages l e =
     let new = with_queue_from inbox from messages in
-    rw (length-set inbox from messages) (filter_without (λ i. not (is_empty (queue_from inbox i))) (λ i. not (is_empty (queue_from new i))) from
+    rw (length-set inbox from messages) (sym (filter_without (λ i. not (is_empty (queue_from inbox i))) (λ i. not (is_empty (queue_from new i))) from
     (λ i other. ap (λ queue. not (is_empty queue)) (elsewhere inbox i from messages [] other))
-    (ap (λ queue. not (is_empty queue)) (get_or-set_same inbox from messages [] l) ∙ ap not e) (range_with_len 0 (length inbox)))
+    (ap (λ queue. not (is_empty queue)) (get_or-set_same inbox from messages [] l) ∙ ap not e) (range_with_len 0 (length inbox))))
 
 -- whether a message from a sender waits stays as it is
 pub senders_same : (inbox : Inbox) (from : ℕ) (messages : List Msg) → from < length inbox → is_empty messages ≡ is_empty (queue_from inbox from) → senders_in inbox ≡ senders_in (with_queue_from inbox from messages)
@@ -192,13 +124,13 @@ acts_within pending node same acts = elim (cases_lt node (length pending.inboxes
 ]
 
 -- who can act once one node has changed
-pub acting_put : (old new : PendingData) (node : ℕ) (acts : Bool) → length new.inboxes ≡ length old.inboxes → length new.steps ≡ length new.inboxes → ((i : ℕ) → (i == node) ≡ false → can_act_in new i ≡ can_act_in old i) → acts ≡ can_act_in new node → (if acts then with_node node (acting_in old) else without_node node (acting_in old)) ≡ acting_in new
+pub acting_put : (old new : PendingData) (node : ℕ) (acts : Bool) → length new.inboxes ≡ length old.inboxes → length new.steps ≡ length new.inboxes → ((i : ℕ) → (i == node) ≡ false → can_act_in new i ≡ can_act_in old i) → acts ≡ can_act_in new node → (if acts then with_node node (acting_in old) else without node (acting_in old)) ≡ acting_in new
 acting_put old new node acts as_many complete same e =
     let put = filter_put (can_act_in old) (can_act_in new) node (length old.inboxes) acts same e (λ can. omega (arith, acts_within new node complete can)) in
     put ∙ ap (λ n. filter (can_act_in new) (range_with_len 0 n)) (sym as_many)
 
 -- once it is noted whether a node can step
-pub acting_step : (inboxes : List Inbox) (steps noted : List Bool) (node : ℕ) (can acts : Bool) → length steps ≡ length inboxes → noted ≡ set steps node can → acts ≡ can_act_in (record { inboxes = inboxes; steps = noted }) node → (if acts then with_node node (acting_in (record { inboxes = inboxes; steps = steps })) else without_node node (acting_in (record { inboxes = inboxes; steps = steps }))) ≡ acting_in (record { inboxes = inboxes; steps = noted })
+pub acting_step : (inboxes : List Inbox) (steps noted : List Bool) (node : ℕ) (can acts : Bool) → length steps ≡ length inboxes → noted ≡ set steps node can → acts ≡ can_act_in (record { inboxes = inboxes; steps = noted }) node → (if acts then with_node node (acting_in (record { inboxes = inboxes; steps = steps })) else without node (acting_in (record { inboxes = inboxes; steps = steps }))) ≡ acting_in (record { inboxes = inboxes; steps = noted })
 acting_step inboxes steps noted node can acts complete e is =
     acting_put (record { inboxes = inboxes; steps = steps }) (record { inboxes = inboxes; steps = noted }) node acts refl
     (ap length e ∙ length-set steps node can ∙ complete)
@@ -206,7 +138,7 @@ acting_step inboxes steps noted node can acts complete e is =
     is
 
 -- once a node has another inbox
-pub acting_inbox : (inboxes : List Inbox) (steps : List Bool) (node : ℕ) (inbox : Inbox) (acts : Bool) → length steps ≡ length inboxes → acts ≡ can_act_in (record { inboxes = set inboxes node inbox; steps = steps }) node → (if acts then with_node node (acting_in (record { inboxes = inboxes; steps = steps })) else without_node node (acting_in (record { inboxes = inboxes; steps = steps }))) ≡ acting_in (record { inboxes = set inboxes node inbox; steps = steps })
+pub acting_inbox : (inboxes : List Inbox) (steps : List Bool) (node : ℕ) (inbox : Inbox) (acts : Bool) → length steps ≡ length inboxes → acts ≡ can_act_in (record { inboxes = set inboxes node inbox; steps = steps }) node → (if acts then with_node node (acting_in (record { inboxes = inboxes; steps = steps })) else without node (acting_in (record { inboxes = inboxes; steps = steps }))) ≡ acting_in (record { inboxes = set inboxes node inbox; steps = steps })
 acting_inbox inboxes steps node inbox acts complete is =
     acting_put (record { inboxes = inboxes; steps = steps }) (record { inboxes = set inboxes node inbox; steps = steps }) node acts
     (length-set inboxes node inbox)
@@ -217,12 +149,12 @@ acting_inbox inboxes steps node inbox acts complete is =
 -- a set with one node more isn't empty
 with_some : (nodes : List ℕ) (node : ℕ) → is_empty (with_node node nodes) ≡ false
 with_some [] node = refl
-with_some (first ∷ rest) node = by (nat_cmp node first)
+with_some (first ∷ rest) node = by (nat_lt node first) (node == first)
   where
-    by : (r : Ordering) → is_empty (match_ordering r (node ∷ first ∷ rest) (first ∷ rest) (first ∷ with_node node rest)) ≡ false
-    by Less = refl
-    by Equal = refl
-    by Greater = refl
+    by : (below there : Bool) → is_empty (cond below (node ∷ first ∷ rest) (cond there (first ∷ rest) (first ∷ with_node node rest))) ≡ false
+    by true there = refl
+    by false true = refl
+    by false false = refl
 
 either_true : (b : Bool) → (b || true) ≡ true
 either_true true = refl

@@ -1,6 +1,6 @@
 -- Lists by numbers from one on.
-use Rattle.std.proofs.Common.{◌≡◌, ℕ, zero, suc, ◌+◌, ◌<◌, ◌≤◌, Bool, List, [], ◌∷◌, length, map, refl, ap, ◌∙◌, arith}
-use Rattle.std.specs.Prelude.{Some, filter, slice_get, cond, ◌||◌}
+use Rattle.std.proofs.Common.{◌≡◌, ℕ, suc, ◌+◌, ◌<◌, Bool, List, [], ◌∷◌, length, map, refl, ap, ◌∙◌, arith}
+use Rattle.std.specs.Prelude.{Some, slice_get, ◌||◌}
 use Rattle.std.specs.List.{range_with_len, list_any}
 use Rattle.std.proofs.lemmas.Option.{same_Some}
 
@@ -14,15 +14,6 @@ listed f a (x ∷ xs) h =
     let rest : xs ≡ map f (range_with_len (a + 1) (length xs)) =
     listed f (a + 1) xs (λ k low. h (suc k) (omega (arith, low)) ∙ ap (λ n. Some (f n)) (omega arith)) in
     ap (λ y. y ∷ xs) here ∙ ap (λ ys. f a ∷ ys) rest
-
--- two tests that agree at the numbers of a range keep the same of them
-pub filter_range : (p q : ℕ → Bool) (a n : ℕ) → ((i : ℕ) → a ≤ i → i < a + n → p i ≡ q i) → filter p (range_with_len a n) ≡ filter q (range_with_len a n)
-filter_range p q a zero h = refl
-filter_range p q a (suc n) h =
-    let rest : filter p (range_with_len (a + 1) n) ≡ filter q (range_with_len (a + 1) n) =
-    filter_range p q (a + 1) n (λ i low high. h i (omega (arith, low)) (omega (arith, high))) in
-    ap (λ b. cond b (a ∷ filter p (range_with_len (a + 1) n)) (filter p (range_with_len (a + 1) n))) (h a (omega arith) (omega arith))
-    ∙ ap (λ ys. cond (q a) (a ∷ ys) ys) rest
 
 -- some value of a list of values passes where some place does
 pub any_map : {A B : Type 0} (p : B → Bool) (f : A → B) (xs : List A) → list_any p (map f xs) ≡ list_any (λ x. p (f x)) xs

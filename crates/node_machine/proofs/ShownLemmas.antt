@@ -21,7 +21,8 @@ use Rattle.node_machine.specs.Reading.{ended_of_node}
 use Rattle.node_machine.specs.End.{end_by, is_used_up}
 use Rattle.node_machine.specs.Core.{CoreData, Shows, IsCore, has_room, is_enabled_in, acting_in, senders_in, ended_in, is_full, counts_at, output_at}
 use Rattle.node_machine.specs.Shown.{ReadsAsShown, ShownIsRead}
-use Rattle.node_machine.proofs.RangeLemmas.{listed, filter_range, any_map}
+use Rattle.node_set.proofs.Ranges.{filter_range}
+use Rattle.node_machine.proofs.RangeLemmas.{listed, any_map}
 
 and_false : (b : Bool) → (b && false) ≡ false
 and_false true = refl

@@ -1,4 +1,3 @@
-pub mod NodeSet
 pub mod Pending
 pub mod Machine
 pub mod Commits

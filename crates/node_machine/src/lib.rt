@@ -7,7 +7,6 @@ mod cores;
 mod laws;
 mod machine;
 mod making;
-mod node_sets;
 mod nodes;
 mod pending;
 mod reading;

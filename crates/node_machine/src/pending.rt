@@ -1,9 +1,9 @@
-ghost use Rattle.std.specs.Prelude.{◌≡◌, ◌<◌, ◌≤◌, ◌++◌, ◌∷◌, [], not, length, replicate, slice_set, slice_index_or, IfOk, OnOk, OnErr, false};
+ghost use Rattle.std.specs.Prelude.{◌≡◌, ◌<◌, ◌++◌, ◌∷◌, [], not, length, replicate, slice_set, slice_index_or, IfOk, OnOk, OnErr, false, if◌then◌else◌};
 ghost use Rattle.event_journal.specs.State.{is_empty};
-ghost use Rattle.node_machine.specs.NodeSet.{with_node, without_node};
+ghost use Rattle.node_set.specs.NodeSet.{with_node, without};
 ghost use Rattle.node_machine.specs.Pending.{queue_from, senders_in, with_queue_from, inbox_of, queue_in, can_act_in, acting_in, nothing_pending, with_message, first_of, rest_of, with_rest};
 
-use crate::node_sets::NodeSet;
+use node_set::NodeSet;
 use sim_base::{NoMemory, NodeId};
 use std::alloc::Global;
 use std::collections::VecDeque;
@@ -18,27 +18,26 @@ pub(crate) struct Inbox {
 }
 
 impl Model for Inbox {
-    ghost use Rattle.std.specs.Prelude.{◌≡◌, ◌≤◌, map, length};
+    ghost use Rattle.std.specs.Prelude.{◌≡◌, map};
     ghost use Rattle.node_machine.specs.Pending.{Inbox, senders_in};
 
     ghost Value = { Inbox };
 
     ghost view = { λ i. map (λ queue. queue.items) i.queues.items };
 
-    ghost invariant = { λ i. (i.senders ≡ senders_in (map (λ queue. queue.items) i.queues.items)) × (length i.queues.items ≤ 256) };
+    ghost invariant = { λ i. i.senders ≡ senders_in (map (λ queue. queue.items) i.queues.items) };
 }
 
 impl Inbox {
     /// No message waits from any of so many senders.
     pub(crate) fn new(alloc: Global, count: usize) -> Result<Inbox, NoMemory>
-        requires { count ≤ 256 }
         ensures { IfOk result (λ inbox. inbox ≡ replicate count []) }
     {
         let mut queues = Vec::with_capacity(alloc, count)?;
         for _ in 0..count {
             queues.push(VecDeque::new(alloc))?;
         }
-        let senders = NodeSet::new(alloc)?;
+        let senders = NodeSet::new();
         Ok(Inbox { queues, senders })
     }
 
@@ -77,24 +76,25 @@ impl Inbox {
     }
 
     /// The senders from whom a message waits, in ascending order.
-    pub(crate) fn senders(&self) -> &[NodeId]
+    pub(crate) fn senders(&self) -> &NodeSet
         ensures { result.now ≡ senders_in self.now }
     {
-        self.senders.as_slice()
+        &self.senders
     }
 }
 
 /// What is pending in a machine: the messages that wait for each node, and which nodes can step. It keeps which nodes can
-/// act, so that no event has to look at all of them.
+/// act, so that no event has to look at all of them, and an empty set, to lend for a node that isn't there.
 #[derive(Drop)]
 pub(crate) struct Pending {
     inboxes: Vec<Inbox>,
     steps: Vec<bool>,
     acting: NodeSet,
+    no_senders: NodeSet,
 }
 
 impl Model for Pending {
-    ghost use Rattle.std.specs.Prelude.{◌≡◌, ◌≤◌, length};
+    ghost use Rattle.std.specs.Prelude.{◌≡◌, [], length};
     ghost use Rattle.node_machine.specs.Pending.{PendingData, acting_in};
 
     ghost Value = { PendingData };
@@ -103,13 +103,13 @@ impl Model for Pending {
 
     ghost invariant = { λ p.
         (p.acting ≡ acting_in (record { inboxes = p.inboxes.items; steps = p.steps.items }))
-        × ((length p.steps.items ≡ length p.inboxes.items) × (length p.inboxes.items ≤ 256)) };
+        × (length p.steps.items ≡ length p.inboxes.items)
+        × (p.no_senders ≡ []) };
 }
 
 impl Pending {
     /// So many nodes, none of which can step, and no message that waits.
     pub(crate) fn new(alloc: Global, count: usize) -> Result<Pending, NoMemory>
-        requires { count ≤ 256 }
         ensures { IfOk result (λ pending. pending ≡ nothing_pending count) }
     {
         let mut inboxes = Vec::with_capacity(alloc, count)?;
@@ -118,11 +118,13 @@ impl Pending {
             inboxes.push(Inbox::new(alloc, count)?)?;
             steps.push(false)?;
         }
-        let acting = NodeSet::new(alloc)?;
+        let acting = NodeSet::new();
+        let no_senders = NodeSet::new();
         Ok(Pending {
             inboxes,
             steps,
             acting,
+            no_senders,
         })
     }
 
@@ -142,7 +144,7 @@ impl Pending {
         }
         note_step(&mut self.steps, node, can);
         let acts = can_act(&self.inboxes, &self.steps, node);
-        self.acting.set(node, acts);
+        put(&mut self.acting, node, acts);
     }
 
     /// A message from a node, to another, waits behind those that wait there. Where memory runs out nothing changes.
@@ -163,7 +165,7 @@ impl Pending {
     {
         let msg = self.inboxes.get_mut(to as usize)?.pop(from);
         let acts = can_act(&self.inboxes, &self.steps, to);
-        self.acting.set(to, acts);
+        put(&mut self.acting, to, acts);
         msg
     }
 
@@ -178,20 +180,31 @@ impl Pending {
     }
 
     /// The nodes that can act, in ascending order.
-    pub(crate) fn acting(&self) -> &[NodeId]
+    pub(crate) fn acting(&self) -> &NodeSet
         ensures { result.now ≡ acting_in self.now }
     {
-        self.acting.as_slice()
+        &self.acting
     }
 
     /// The senders from whom a message waits for a node, in ascending order.
-    pub(crate) fn senders(&self, node: NodeId) -> &[NodeId]
+    pub(crate) fn senders(&self, node: NodeId) -> &NodeSet
         ensures { result.now ≡ senders_in (inbox_of self.now.inboxes node) }
     {
         match self.inboxes.get(node as usize) {
             Some(inbox) => inbox.senders(),
-            None => &[],
+            None => &self.no_senders,
         }
+    }
+}
+
+/// Puts a node into a set, or takes it out.
+fn put(nodes: &mut NodeSet, node: NodeId, is_in: bool)
+    ensures { nodes.new ≡ (if is_in then with_node node nodes.old else without node nodes.old) }
+{
+    if is_in {
+        nodes.insert(node);
+    } else {
+        nodes.remove(node);
     }
 }
 

@@ -5,6 +5,7 @@ ghost use Rattle.node_machine.specs.Core.{can_make_in, is_enabled_in, steps_at, 
 use crate::cores::Core;
 use crate::nodes::Node;
 use event_journal::Event;
+use node_set::NodeSet;
 use sim_base::{End, Line, NodeId};
 use tile_cache::Hold;
 use tile_node::TileCounts;
@@ -118,14 +119,14 @@ impl Core {
     }
 
     /// The nodes that can act, since they can step or a message waits for them, in ascending order.
-    pub fn acting(&self) -> &[NodeId]
+    pub fn acting(&self) -> &NodeSet
         ensures { self.now.spent ≡ false → result.now ≡ acting_in self.now }
     {
         self.pending.acting()
     }
 
     /// The senders from whom a message waits for a node, in ascending order.
-    pub fn senders(&self, node: NodeId) -> &[NodeId]
+    pub fn senders(&self, node: NodeId) -> &NodeSet
         ensures { result.now ≡ senders_in self.now node }
     {
         self.pending.senders(node)

@@ -1,11 +1,11 @@
 -- Which events nodes can choose, over any machine.
 use Rattle.std.proofs.Common.{◌≡◌, ℕ, zero, suc, ◌+◌, ◌%◌, ◌<◌, ◌≤◌, Bool, true, false, List, [], ◌∷◌, ◌++◌, length, map, refl, sym, ap, subst, ◌∙◌, arith, inl, inr}
-use Rattle.std.specs.Prelude.{Option, Some, None, cond, ◌&&◌, ◌||◌, not, nat_lt, filter, slice_get, IsTrue}
+use Rattle.std.specs.Prelude.{Option, Some, None, cond, ◌&&◌, ◌||◌, not, nat_lt, filter, slice_get}
 use Rattle.std.specs.List.{range_with_len}
 use Rattle.std.proofs.lemmas.Bool.{cases_Bool}
 use Rattle.std.proofs.lemmas.Bool.Decides.{nat_tests, eqb_tells}
 use Rattle.std.proofs.Math.ListN.{get_or}
-use Rattle.std.proofs.lemmas.Option.{same_Some, none-some, slice_get-get_or, slice_get_within}
+use Rattle.std.proofs.lemmas.Option.{same_Some, none-some, slice_get-get_or}
 use Rattle.event_journal.specs.declared.events.Event.{Event}
 use Rattle.event_journal.specs.declared.events.Event.TheVariants.{Step, Deliver}
 use Rattle.event_journal.specs.Rules.{Rules}

@@ -1,6 +1,6 @@
 -- What the stream draws of a core, and how a run goes on by it.
-use Rattle.std.proofs.Common.{◌≡◌, ℕ, zero, suc, ◌+◌, ◌*◌, ◌%◌, ◌<◌, ◌≤◌, Bool, true, false, List, [], ◌∷◌, ◌++◌, length, map, refl, sym, ap, subst, ◌∙◌, arith, inl, inr}
-use Rattle.std.specs.Prelude.{Option, Some, None, Result, Ok, Err, ◌||◌, nat_le, slice_get}
+use Rattle.std.proofs.Common.{◌≡◌, ℕ, zero, suc, ◌+◌, ◌*◌, ◌<◌, ◌≤◌, Bool, true, false, List, [], ◌∷◌, ◌++◌, length, refl, sym, ap, subst, ◌∙◌, arith, inl, inr}
+use Rattle.std.specs.Prelude.{Option, Some, None, Err, ◌||◌, nat_le, slice_get}
 use Rattle.std.specs.List.{range_with_len, list_any}
 use Rattle.std.proofs.lemmas.Bool.{cases_Bool, true≢false}
 use Rattle.std.proofs.lemmas.Bool.Decides.{nat_tests, eqb_tells}
@@ -14,23 +14,23 @@ use Rattle.elf_image.specs.Layout.{Setup}
 use Rattle.wire_msg.specs.declared.messages.Msg.{Msg}
 use Rattle.event_journal.specs.declared.events.Event.{Event}
 use Rattle.event_journal.specs.State.{State}
-use Rattle.event_journal.specs.Run.{IsRun, after, happens, can_happen}
-use Rattle.event_journal.specs.Choice.{acting_nodes, choices, senders_to}
+use Rattle.event_journal.specs.Run.{after, happens, can_happen}
+use Rattle.event_journal.specs.Choice.{acting_nodes}
 use Rattle.event_journal.proofs.Runs.{after-append, run-append, stays_within}
 use Rattle.node_machine.specs.declared.nodes.Node.{Node}
 use Rattle.node_machine.specs.Machine.{rules, can_step, start_node, start_state}
 use Rattle.node_machine.specs.Reading.{ended_of_node}
-use Rattle.node_machine.specs.End.{end_of, end_by, budget_end, is_used_up}
-use Rattle.node_machine.specs.Core.{CoreData, Shows, IsCore, IsMade, Applies, steps_at, acting_in, senders_in, end_in, start_core}
+use Rattle.node_machine.specs.End.{end_of, end_by, is_used_up}
+use Rattle.node_machine.specs.Core.{CoreData, Shows, IsCore, IsMade, Applies, steps_at, senders_in, end_in, start_core}
 use Rattle.node_machine.specs.declared.cores.ApplyFault.{ApplyFault}
 use Rattle.node_machine.specs.declared.cores.ApplyFault.TheVariants.{NotEnabled}
 use Rattle.node_machine.specs.Shown.{ReadsAsShown}
 use Rattle.node_machine.proofs.ShownLemmas.{shown_is_read}
 use Rattle.seq_driver.specs.Picked.{start_stream, next_word, after_word, after_draw, picked, choice_of, drawn_event, AreDrawn}
 use Rattle.node_machine.proofs.StartLemmas.{start_is_shown}
-use Rattle.seq_driver.specs.Driven.{state_after, IsJournal, IsDrawn, IsRan, IsStuck, OneIsDrawn}
+use Rattle.seq_driver.specs.Driven.{state_after, IsJournal, IsRan, IsStuck, OneIsDrawn}
 use Rattle.seq_driver.specs.Inner.{choices_in, choice_in, drawn_in, after_draws, IsUnderWay, IsDrawing}
-use Rattle.seq_driver.proofs.ChoiceLemmas.{nobody_acts, drawn_can, picked_acts, none_drawn, IsKept}
+use Rattle.seq_driver.proofs.ChoiceLemmas.{nobody_acts, drawn_can, picked_acts, none_drawn}
 
 -- lists of events that the stream drew, one event longer
 

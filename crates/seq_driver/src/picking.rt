@@ -4,6 +4,7 @@ ghost use Rattle.seq_driver.specs.Inner.{choices_in, drawn_in};
 
 use event_journal::Event;
 use node_machine::Core;
+use node_set::NodeSet;
 use rand_core::utils::NextWord;
 use rand_pcg::Lcg64Xsh32;
 use sim_base::NodeId;
@@ -57,11 +58,11 @@ pub(crate) fn drawn_event(core: &Core, stream: &mut Stream) -> Option<Event>
 }
 
 /// The node that a word picks of these: the one at the word modulo their number.
-fn picked(nodes: &[NodeId], word: u32) -> Option<NodeId>
+fn picked(nodes: &NodeSet, word: u32) -> Option<NodeId>
     ensures { result ≡ picked nodes.now word }
 {
     let place = place_of(word, nodes.len())?;
-    Some(nodes[place])
+    nodes.get(place)
 }
 
 /// The place that a word picks of so many: the word modulo their number.
@@ -78,7 +79,7 @@ fn place_of(word: u32, count: usize) -> Option<usize>
 }
 
 /// The event that a word picks of what a node can do: its step, if it can step, and deliveries from these senders.
-fn choice(node: NodeId, can_step: bool, senders: &[NodeId], word: u32) -> Option<Event>
+fn choice(node: NodeId, can_step: bool, senders: &NodeSet, word: u32) -> Option<Event>
     ensures { result ≡ picked (choices_in can_step node senders.now) word }
 {
     let steps = if can_step { 1 } else { 0 };
@@ -86,6 +87,6 @@ fn choice(node: NodeId, can_step: bool, senders: &[NodeId], word: u32) -> Option
     if place < steps {
         return Some(Event::Step { node });
     }
-    let from = senders[place - steps];
+    let from = senders.get(place - steps)?;
     Some(Event::Deliver { from, node })
 }

@@ -1,10 +1,10 @@
 -- Each turn ends the run, finds it stuck, or makes the event that the stream draws.
-use Rattle.std.proofs.Common.{◌≡◌, ◌+◌, ◌*◌, ◌<◌, false, List, [], ◌∷◌, ◌++◌, Some, None, length, refl, sym, ap, subst, ◌∙◌, arith, length-append, rules}
+use Rattle.std.proofs.Common.{◌≡◌, ◌+◌, ◌*◌, ◌<◌, [], ◌∷◌, ◌++◌, Some, None, length, sym, ap, subst, ◌∙◌, arith, length-append, rules}
 use Rattle.sim_base.specs.Numbering.{node_count}
 use Rattle.node_machine.specs.declared.cores.ApplyFault.TheVariants.{NotEnabled}
 use Rattle.std.specs.Prelude.{Ok}
-use Rattle.node_machine.specs.Core.{IsCore, Applies, end_in}
-use Rattle.seq_driver.specs.Picked.{after_draw, start_stream}
+use Rattle.node_machine.specs.Core.{Applies, end_in}
+use Rattle.seq_driver.specs.Picked.{after_draw}
 use Rattle.seq_driver.specs.Inner.{drawn_in, IsUnderWay, IsDrawing}
 use Rattle.seq_driver.proofs.DrawLemmas.{ran_at, stuck_at, not_refused, run_goes_on, drawing_goes_on, begins, not_so_many, refused_by}
 use Rattle.seq_driver.proofs.driver.run_alone.Goals as goal

@@ -1,5 +1,5 @@
 -- Each event is made, or is the first that is refused.
-use Rattle.std.proofs.Common.{◌≡◌, ◌≤◌, List, length, Some, None, refl, sym, ap, ◌∙◌, arith, rules}
+use Rattle.std.proofs.Common.{◌≡◌, ◌≤◌, length, Some, None, refl, ap, ◌∙◌, arith, rules}
 use Rattle.node_machine.specs.declared.cores.ApplyFault.TheVariants.{NotEnabled}
 use Rattle.node_machine.specs.Core.{end_in}
 use Rattle.seq_driver.proofs.DrawLemmas.{begins, refused_by}

@@ -1,7 +1,7 @@
 use Rattle.std.proofs.Common.{◌≡◌, ◌<◌, length, map, true, false, sym, ap, ◌∙◌, arith}
-use Rattle.std.proofs.lemmas.List.{length-map, length-set}
+use Rattle.std.proofs.lemmas.List.{length-map}
 use Rattle.event_journal.specs.State.{is_empty}
-use Rattle.node_machine.specs.NodeSet.{without_node}
+use Rattle.node_set.specs.NodeSet.{without}
 use Rattle.node_machine.specs.Pending.{queue_from, senders_in, with_queue_from, rest_of}
 use Rattle.node_machine.proofs.PendingLemmas.{items_of, queue_written, queue_rest, queue_empty, rest_some, senders_without, senders_same}
 use Rattle.node_machine.proofs.pending.Inbox.pop.Goals as goal
@@ -15,7 +15,7 @@ invariant_of-self-then-is_empty c =
     let popped = queue_written queues c.args.from c.pop_front-msg.new.self (rest_of (queue_from inbox c.args.from)) rest in
     let none : is_empty (rest_of (queue_from inbox c.args.from)) ≡ true = ap is_empty (sym rest) ∙ queue_empty c.pop_front-msg.new.self ∙ sym c.if-is_empty.ensures in
     let fewer = senders_without inbox c.args.from (rest_of (queue_from inbox c.args.from)) (omega (arith, length-map queues items_of)) none in
-    (c.remove.ensures ∙ ap (without_node c.args.from) c.self.invariant.0 ∙ fewer ∙ ap senders_in (sym popped), rw length-set c.self.invariant.1)
+    c.remove.ensures.nodes ∙ ap (without c.args.from) c.self.invariant ∙ fewer ∙ ap senders_in (sym popped)
 
 pub invariant_of-self-else-is_empty : goal.invariant_of-self-else-is_empty
 invariant_of-self-else-is_empty c =
@@ -26,7 +26,7 @@ invariant_of-self-else-is_empty c =
     let popped = queue_written queues c.args.from c.pop_front-msg.new.self (rest_of (queue_from inbox c.args.from)) rest in
     let some : is_empty (rest_of (queue_from inbox c.args.from)) ≡ false = ap is_empty (sym rest) ∙ queue_empty c.pop_front-msg.new.self ∙ sym c.if-is_empty.ensures in
     let same = senders_same inbox c.args.from (rest_of (queue_from inbox c.args.from)) (omega (arith, length-map queues items_of)) (rest_some (queue_from inbox c.args.from) some) in
-    (c.self.invariant.0 ∙ same ∙ ap senders_in (sym popped), rw length-set c.self.invariant.1)
+    c.self.invariant ∙ same ∙ ap senders_in (sym popped)
 
 pub returns-then-is_empty-clause-rest : goal.returns-then-is_empty-clause-rest
 returns-then-is_empty-clause-rest c =

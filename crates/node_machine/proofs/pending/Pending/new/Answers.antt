@@ -1,4 +1,4 @@
-use Rattle.std.proofs.Common.{◌≡◌, [], false, length, replicate, sym, ap, ◌∙◌, arith}
+use Rattle.std.proofs.Common.{◌≡◌, [], false, length, replicate, sym, ap, ◌∙◌}
 use Rattle.std.proofs.lemmas.List.{length-replicate}
 use Rattle.node_machine.specs.Pending.{acting_in}
 use Rattle.node_machine.proofs.PendingLemmas.{acting_none}
@@ -11,6 +11,7 @@ invariant_of-result c =
     let steps = c.loop.invariant.1 in
     let many_inboxes : length c.loop.inboxes.items ≡ n = ap length inboxes ∙ length-replicate n (replicate c.args.count []) in
     let many_steps : length c.loop.steps.items ≡ n = ap length steps ∙ length-replicate n false in (
-      c.in_ok-acting.ensures ∙ sym (acting_none n c.args.count) ∙ ap (λ each. acting_in (record { inboxes = each; steps = replicate n false })) (sym inboxes) ∙ ap (λ each. acting_in (record { inboxes = c.loop.inboxes.items; steps = each })) (sym steps),
-      (many_steps ∙ sym many_inboxes, omega (arith, c.requires, c.loop.auto.counter-end)),
+      c.new-acting.ensures ∙ sym (acting_none n c.args.count) ∙ ap (λ each. acting_in (record { inboxes = each; steps = replicate n false })) (sym inboxes) ∙ ap (λ each. acting_in (record { inboxes = c.loop.inboxes.items; steps = each })) (sym steps),
+      many_steps ∙ sym many_inboxes,
+      c.new-no_senders.ensures,
     )
