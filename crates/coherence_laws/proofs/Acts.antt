@@ -14,7 +14,7 @@ use Rattle.tile_core.specs.Core.{line_missed}
 use Rattle.tile_core.specs.Gathering.{Gathering}
 use Rattle.tile_cache.specs.Copy.{Copy, absent, shared, modified, held_as}
 use Rattle.dir_slice.specs.Line.{Request, State, Uncached, Shared, Modified, BusyInv, BusyFetch}
-use Rattle.dir_slice.specs.Laws.{has_node}
+use Rattle.node_set.specs.NodeSet.{has_node}
 use Rattle.tile_node.specs.Tile.{is_write, place_in_line}
 use Rattle.tile_node.specs.OneLine.{wants_by, wants_write, data_written, data_after, Happening, nothing, hit, asked, came, evicted, fetched, copy_after, told_after, wants_after, hold_given, takes, waiting, heard, MayChange, MayHappen}
 use Rattle.coherence_laws.specs.Part.{Part}

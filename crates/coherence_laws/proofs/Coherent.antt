@@ -6,7 +6,7 @@ use Rattle.std.specs.List.{filter_map}
 use Rattle.sim_base.specs.declared.lines.LineData.{LineData}
 use Rattle.wire_msg.specs.Message.{gives, drops, Down}
 use Rattle.tile_cache.specs.Copy.{absent}
-use Rattle.dir_slice.specs.Laws.{has_node}
+use Rattle.node_set.specs.NodeSet.{has_node}
 use Rattle.dir_slice.specs.Line.{Request, State, Uncached, Shared, Modified, BusyInv, BusyFetch}
 use Rattle.coherence_laws.specs.Part.{Part}
 use Rattle.coherence_laws.specs.Coherence.{IsWritable, HasData, in_copy, in_up, in_down, carried}

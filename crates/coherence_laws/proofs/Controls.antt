@@ -16,7 +16,7 @@ use Rattle.wire_msg.specs.Message.{Up, asks, acknowledges, Down, gives, drops, f
 use Rattle.tile_cache.specs.Copy.{absent}
 use Rattle.dir_slice.specs.Line.{State as DirState, Uncached, Shared, Modified, BusyInv, BusyFetch, Home}
 use Rattle.dir_slice.specs.Inner.{StateIsWithin}
-use Rattle.dir_slice.specs.Laws.{has_node}
+use Rattle.node_set.specs.NodeSet.{has_node}
 use Rattle.tile_node.specs.OneLine.{dropped_copy, IsFromHome}
 use Rattle.control_server.specs.Control.{Control, Act, Check}
 use Rattle.control_server.specs.Serve.{line_at, can_step, control_step}

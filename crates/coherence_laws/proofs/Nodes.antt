@@ -6,8 +6,8 @@ use Rattle.std.specs.Prelude.{nat_lt, map}
 use Rattle.std.specs.List.{AllByRecursion}
 use Rattle.sim_base.specs.declared.lines.LineData.{LineData}
 use Rattle.wire_msg.specs.Message.{Down, gives, drops, fetches}
-use Rattle.dir_slice.specs.Line.{Sent, drop_copy, fetch, give, with_node, without}
-use Rattle.dir_slice.specs.Laws.{Ascends, has_node}
+use Rattle.dir_slice.specs.Line.{Sent, drop_copy, fetch, give}
+use Rattle.node_set.specs.NodeSet.{Ascends, has_node, with_node, without}
 
 pub equal : (x y : ℕ) → (x == y) ≡ true → x ≡ y
 equal x y e = grind (arith, nat_tests)

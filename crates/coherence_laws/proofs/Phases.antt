@@ -5,7 +5,7 @@ use Rattle.sim_base.specs.declared.lines.LineData.{LineData}
 use Rattle.wire_msg.specs.Message.{Up, asks, gives_up, acknowledges, answers, Down, gives, drops, fetches}
 use Rattle.tile_cache.specs.Copy.{Copy, absent, shared, modified, held_as}
 use Rattle.dir_slice.specs.Line.{Request, State, Uncached, Shared, Modified, BusyInv, BusyFetch}
-use Rattle.dir_slice.specs.Laws.{has_node}
+use Rattle.node_set.specs.NodeSet.{has_node}
 use Rattle.tile_node.specs.OneLine.{dropped_copy, hold_given}
 use Rattle.coherence_laws.specs.Part.{Part}
 

@@ -4,9 +4,10 @@ use Rattle.std.proofs.lemmas.Bool.{cases_Bool}
 use Rattle.sim_base.specs.declared.lines.LineData.{LineData}
 use Rattle.sim_base.specs.Settings.{default_settings}
 use Rattle.wire_msg.specs.Message.{asks, Down, gives, drops, fetches}
-use Rattle.dir_slice.specs.Line.{Request, State, Uncached, Shared, Modified, BusyInv, BusyFetch, Home, fetch, give, with_node, without, is_busy, invalidate, request_row}
+use Rattle.dir_slice.specs.Line.{Request, State, Uncached, Shared, Modified, BusyInv, BusyFetch, Home, fetch, give, is_busy, invalidate, request_row}
 use Rattle.dir_slice.specs.Directory.{Step, zero_line}
-use Rattle.dir_slice.specs.Laws.{has_node, StateIsOrderly}
+use Rattle.node_set.specs.NodeSet.{has_node, with_node, without}
+use Rattle.dir_slice.specs.Laws.{StateIsOrderly}
 use Rattle.dir_slice.proofs.Orderly.{keeps_orderly}
 use Rattle.coherence_laws.specs.Part.{Part}
 use Rattle.coherence_laws.proofs.Phases.{Standing, sharer, upgrader, victim, owner, part_in, standing, served, waits, Fits, Comes, sent}

@@ -13,7 +13,7 @@ use Rattle.tile_core.specs.declared.cores.Status.TheVariants.{Miss}
 use Rattle.tile_core.specs.Core.{line_missed}
 use Rattle.tile_core.specs.Gathering.{Gathering}
 use Rattle.dir_slice.specs.Line.{Request, State as DirState, Uncached, Shared, Modified, BusyInv, BusyFetch, Home, is_busy}
-use Rattle.dir_slice.specs.Laws.{has_node}
+use Rattle.node_set.specs.NodeSet.{has_node}
 use Rattle.tile_node.specs.OneLine.{wants_by, wants_write}
 use Rattle.control_server.specs.Control.{Check}
 use Rattle.control_server.specs.Serve.{line_at}

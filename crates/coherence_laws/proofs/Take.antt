@@ -11,9 +11,10 @@ use Rattle.sim_base.specs.Settings.{default_settings}
 use Rattle.mesh_model.specs.Cost.{delay_of}
 use Rattle.wire_msg.specs.declared.messages.Msg.{Msg}
 use Rattle.wire_msg.specs.Message.{Up, asks, gives_up, acknowledges, answers, Down, gives, down_about, downs}
-use Rattle.dir_slice.specs.Line.{Request, State, Uncached, Shared, Modified, BusyInv, BusyFetch, Home, Row, Sent, drop_copy, fetch, give, same, with_node, without, is_busy, request_row, ack_row, acked_by, fetch_row, fetched_by, put_row, put_by, awaited}
+use Rattle.dir_slice.specs.Line.{Request, State, Uncached, Shared, Modified, BusyInv, BusyFetch, Home, Row, Sent, drop_copy, fetch, give, same, is_busy, request_row, ack_row, acked_by, fetch_row, fetched_by, put_row, put_by, awaited}
 use Rattle.dir_slice.specs.Directory.{Mail, Step, message, farthest, in_row, taken_up, before_mail, settled, settle, with_data, reaction, home_after, mail_of, zero_line}
-use Rattle.dir_slice.specs.Laws.{has_node, StateIsOrderly}
+use Rattle.node_set.specs.NodeSet.{has_node, with_node, without}
+use Rattle.dir_slice.specs.Laws.{StateIsOrderly}
 use Rattle.dir_slice.proofs.Orderly.{keeps_orderly}
 use Rattle.event_journal.specs.State.{messages_to}
 use Rattle.coherence_laws.specs.Part.{Part}

@@ -1,4 +1,3 @@
-pub mod Sets
 pub mod Sent
 pub mod Nodes
 pub mod Settling

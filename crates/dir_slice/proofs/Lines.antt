@@ -8,7 +8,7 @@ use Rattle.std.proofs.lemmas.Bool.Decides.{nat_tests}
 use Rattle.dir_slice.specs.Line.{Home, fresh}
 use Rattle.dir_slice.specs.Directory.{zero_line, home_at}
 use Rattle.dir_slice.specs.Laws.{OneLineChanges}
-use Rattle.dir_slice.proofs.Sets.{cases_bool}
+use Rattle.std.proofs.lemmas.Bool.{cases_Bool}
 
 unwrap-same : (b : Bool) (h : Home) (other : Option Home) (d : Home) → unwrap_or (cond b (Some h) other) d ≡ cond b h (unwrap_or other d)
 unwrap-same true h other d = refl
@@ -24,7 +24,7 @@ home_at-insert homes line k h =
 
 unchanged : (homes : FinMap nat_cmp Home) (line k : ℕ) → home_at homes k ≡ cond (nat_eq k line) (home_at homes line) (home_at homes k)
 unchanged homes line k =
-    elim (cases_bool (nat_eq k line)) [
+    elim (cases_Bool (nat_eq k line)) [
       | inl t ↦ let e : k ≡ line = grind (arith, nat_tests) in rw t (ap (home_at homes) e)
       | inr t ↦ rw t refl
     ]

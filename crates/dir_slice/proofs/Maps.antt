@@ -7,9 +7,7 @@ use Rattle.std.specs.FinMap as map
 use Rattle.std.specs.Ordering.{nat_cmp, eq_by_cmp}
 use Rattle.std.specs.Cmp.{nat_cmp_total, eq_by_cmp_equiv}
 use Rattle.std.specs.Map.{lookup}
-use Rattle.dir_slice.specs.Line.{Home, fresh}
-use Rattle.dir_slice.specs.Inner.{without_home}
-use Rattle.dir_slice.specs.Directory.{zero_line}
+use Rattle.dir_slice.specs.Line.{Home}
 
 find-lookup : (q : ℕ) (es : List (ℕ × Home)) → map.find nat_cmp q es ≡ lookup (tree.is_at (nat_cmp q)) es
 find-lookup q [] = refl
@@ -27,15 +25,17 @@ insert-tree m n line h u =
     get-tree n q ∙ u.0 q ∙ ap (λ b. cond b (Some h) (tree.get nat_cmp m q)) ((eq_by_cmp_equiv nat_cmp_total).symm line q)
     ∙ ap (cond (eq_by_cmp nat_cmp q line) (Some h)) (sym (get-tree m q)) ∙ sym (map.get-insert nat_cmp_total (map.from_entries m.entries) line h q))
 
--- a line's home was looked for to be taken out: it isn't known, or another stands in its place
-pub taken_none : (m n : BTreeMap ℕ Home) (line : ℕ) → None ≡ tree.get nat_cmp m line → n ≡ m
-    → map.from_entries {R = nat_cmp} n.entries ≡ without_home (map.from_entries m.entries) line
-taken_none m n line none same =
-    let unknown : map.get (map.from_entries {R = nat_cmp} m.entries) line ≡ None = get-tree m line ∙ sym none in
-    rw (unknown, same) refl
+-- a home that the tree has, and the map after it was changed where it stands
+pub known-tree : (homes : map.FinMap nat_cmp Home) (m : BTreeMap ℕ Home) (line : ℕ) (h : Home) → map.from_entries {R = nat_cmp} m.entries ≡ homes → Some h ≡ tree.get nat_cmp m line → Some h ≡ map.get homes line
+known-tree homes m line h is found = rw (← is, get-tree) found
 
-pub taken : (m n : BTreeMap ℕ Home) (line : ℕ) (h w : Home) → Some h ≡ tree.get nat_cmp m line → w ≡ fresh zero_line → tree.WritesThrough nat_cmp (nat_cmp line) m w n
-    → map.from_entries {R = nat_cmp} n.entries ≡ without_home (map.from_entries m.entries) line
-taken m n line h w found is written =
-    let known : map.get (map.from_entries {R = nat_cmp} m.entries) line ≡ Some h = get-tree m line ∙ sym found in
-    rw (known, ← is) (insert-tree m n line w (written.3 (rw (← found) refl)))
+pub written-tree : (homes : map.FinMap nat_cmp Home) (m n : BTreeMap ℕ Home) (line : ℕ) (h w : Home) → map.from_entries {R = nat_cmp} m.entries ≡ homes → Some h ≡ tree.get nat_cmp m line
+    → tree.WritesThrough nat_cmp (nat_cmp line) m w n → map.from_entries {R = nat_cmp} n.entries ≡ map.insert homes line w
+written-tree homes m n line h w is found written = rw (← is) (insert-tree m n line w (written.3 (rw (← found) refl)))
+
+-- where it was looked for in vain, the map has none, and is the same
+pub unknown-tree : (homes : map.FinMap nat_cmp Home) (m : BTreeMap ℕ Home) (line : ℕ) → map.from_entries {R = nat_cmp} m.entries ≡ homes → None ≡ tree.get nat_cmp m line → map.get homes line ≡ None
+unknown-tree homes m line is none = rw (← is, get-tree) (sym none)
+
+pub same-tree : (homes : map.FinMap nat_cmp Home) (m n : BTreeMap ℕ Home) → map.from_entries {R = nat_cmp} m.entries ≡ homes → n ≡ m → map.from_entries {R = nat_cmp} n.entries ≡ homes
+same-tree homes m n is same = rw same is

@@ -1,65 +1,29 @@
 -- Whatever a home is told, requests wait only while a transaction is under way, its set ascends, and a writer waits for
 -- some node other than itself.
-use Rattle.std.proofs.Common.{◌≡◌, ℕ, ◌<◌, Bool, true, false, List, [], ◌∷◌, ◌++◌, refl, inl, inr, arith}
-use Rattle.std.specs.Prelude.{nat_lt, nat_eq, ◌==◌, filter, if◌then◌else◌, Option, Some, None, IfSome}
-use Rattle.std.specs.List.{AllByRecursion}
-use Rattle.std.proofs.lemmas.Bool.Decides.{nat_tests}
+use Rattle.std.proofs.Common.{◌≡◌, ℕ, Bool, true, false, List, [], ◌∷◌, ◌++◌, refl, inl, inr}
+use Rattle.std.specs.Prelude.{nat_eq, ◌==◌, filter, if◌then◌else◌, Option, Some, None, IfSome}
 use Rattle.sim_base.specs.declared.lines.LineData.{LineData}
 use Rattle.sim_base.specs.declared.settings.Config.{Config}
+use Rattle.node_set.specs.NodeSet.{Ascends, has_node, without}
+use Rattle.node_set.proofs.Sets.{Ascends-with_node, Ascends-without}
 use Rattle.wire_msg.specs.Message.{Up, asks, acknowledges, answers, gives_up}
-use Rattle.dir_slice.specs.Line.{Request, State, Uncached, Shared, Modified, BusyInv, BusyFetch, Home, Row, fresh, same, is_busy, with_node, without, invalidate, request_row, ack_row, acked_by, fetch_row, fetched_by, put_row, put_by}
+use Rattle.dir_slice.specs.Line.{Request, State, Uncached, Shared, Modified, BusyInv, BusyFetch, Home, Row, fresh, same, is_busy, invalidate, request_row, ack_row, acked_by, fetch_row, fetched_by, put_row, put_by}
 use Rattle.dir_slice.specs.Directory.{taken_up, settled, with_data, reaction, home_after}
-use Rattle.dir_slice.specs.Laws.{Ascends, has_node, StateIsOrderly, IsOrderly, FreshIsOrderly, KeepsOrderly, after_all, StaysOrderly}
-use Rattle.dir_slice.proofs.Sets.{cases_bool}
-
-farther : (a b : ℕ) (xs : List ℕ) → a < b → AllByRecursion (λ y. b < y) xs → AllByRecursion (λ y. a < y) xs
-farther a b [] lt all = tt
-farther a b (x ∷ xs) lt all = (omega (arith, all.0), farther a b xs lt all.1)
-
-above-with_node : (a x : ℕ) (ys : List ℕ) → a < x → AllByRecursion (λ y. a < y) ys → AllByRecursion (λ y. a < y) (with_node x ys)
-above-with_node a x [] lt all = (lt, tt)
-above-with_node a x (y ∷ ys) lt all =
-    elim (cases_bool (nat_lt x y)) [
-      | inl t ↦ rw t (lt, all)
-      | inr t ↦ elim (cases_bool (nat_eq x y)) [
-        | inl e ↦ rw (t, e) all
-        | inr e ↦ rw (t, e) (all.0, above-with_node a x ys lt all.1)
-      ]
-    ]
-
-Ascends-with_node : (x : ℕ) (ys : List ℕ) → Ascends ys → Ascends (with_node x ys)
-Ascends-with_node x [] rises = (tt, tt)
-Ascends-with_node x (y ∷ ys) rises =
-    elim (cases_bool (nat_lt x y)) [
-      | inl t ↦ let lt : x < y = grind (arith, nat_tests) in rw t ((lt, farther x y ys lt rises.0), rises)
-      | inr t ↦ elim (cases_bool (nat_eq x y)) [
-        | inl e ↦ rw (t, e) rises
-        | inr e ↦ let lt : y < x = grind (arith, nat_tests) in rw (t, e) (above-with_node y x ys lt rises.0, Ascends-with_node x ys rises.1)
-      ]
-    ]
-
-above-filter : (p : ℕ → Bool) (a : ℕ) (ys : List ℕ) → AllByRecursion (λ y. a < y) ys → AllByRecursion (λ y. a < y) (filter p ys)
-above-filter p a [] all = tt
-above-filter p a (y ∷ ys) all =
-    elim (cases_bool (p y)) [ inl t ↦ rw t (all.0, above-filter p a ys all.1) | inr t ↦ rw t (above-filter p a ys all.1) ]
-
-Ascends-filter : (p : ℕ → Bool) (ys : List ℕ) → Ascends ys → Ascends (filter p ys)
-Ascends-filter p [] rises = tt
-Ascends-filter p (y ∷ ys) rises =
-    elim (cases_bool (p y)) [ inl t ↦ rw t (above-filter p y ys rises.0, Ascends-filter p ys rises.1) | inr t ↦ rw t (Ascends-filter p ys rises.1) ]
+use Rattle.dir_slice.specs.Laws.{StateIsOrderly, IsOrderly, FreshIsOrderly, KeepsOrderly, after_all, StaysOrderly}
+use Rattle.std.proofs.lemmas.Bool.{cases_Bool}
 
 -- a set without a node lacks it, and lacks what it lacked
 lacks-without : (x : ℕ) (ys : List ℕ) → has_node x (without x ys) ≡ false
 lacks-without x [] = refl
-lacks-without x (y ∷ ys) = elim (cases_bool (nat_eq y x)) [ inl t ↦ rw t (lacks-without x ys) | inr t ↦ rw (t, t) (lacks-without x ys) ]
+lacks-without x (y ∷ ys) = elim (cases_Bool (nat_eq y x)) [ inl t ↦ rw t (lacks-without x ys) | inr t ↦ rw (t, t) (lacks-without x ys) ]
 
 lacks-filter : (p : ℕ → Bool) (x : ℕ) (ys : List ℕ) → has_node x ys ≡ false → has_node x (filter p ys) ≡ false
 lacks-filter p x [] none = refl
 lacks-filter p x (y ∷ ys) none =
-    elim (cases_bool (nat_eq y x)) [
+    elim (cases_Bool (nat_eq y x)) [
       | inl t ↦ cc
       | inr t ↦ let rest : has_node x ys ≡ false = rw t at none in
-          elim (cases_bool (p y)) [ inl e ↦ rw (e, t) (lacks-filter p x ys rest) | inr e ↦ rw e (lacks-filter p x ys rest) ]
+          elim (cases_Bool (p y)) [ inl e ↦ rw (e, t) (lacks-filter p x ys rest) | inr e ↦ rw e (lacks-filter p x ys rest) ]
     ]
 
 -- the rows keep states so
@@ -71,7 +35,7 @@ request_orderly : (state : State) (write : Bool) (r : ℕ) → StateIsOrderly st
 request_orderly Uncached false r o = (tt, tt)
 request_orderly Uncached true r o = tt
 request_orderly (Shared sharers) false r o = Ascends-with_node r sharers o
-request_orderly (Shared sharers) true r o = invalidate_orderly r (without r sharers) (Ascends-filter _ sharers o) (lacks-without r sharers)
+request_orderly (Shared sharers) true r o = invalidate_orderly r (without r sharers) (Ascends-without r sharers o) (lacks-without r sharers)
 request_orderly (Modified owner) write r o = tt
 request_orderly (BusyInv requester left) write r o = o
 request_orderly (BusyFetch w requester owner) write r o = tt
@@ -84,7 +48,7 @@ acked_by_orderly r [] rises lacks = tt
 acked_by_orderly r (x ∷ xs) rises lacks = (rises, λ (none : x ∷ xs ≡ []). cc, lacks)
 
 ack_orderly : (state : State) (from : ℕ) → StateIsOrderly state → RowIsOrderly (ack_row state from)
-ack_orderly (BusyInv r left) from o = acked_by_orderly r (without from left) (Ascends-filter _ left o.0) (lacks-filter _ r left o.2)
+ack_orderly (BusyInv r left) from o = acked_by_orderly r (without from left) (Ascends-without from left o.0) (lacks-filter _ r left o.2)
 ack_orderly _ from o = tt
 
 fetched_by_orderly : (write : Bool) (r owner : ℕ) → StateIsOrderly (fetched_by write r owner).state
@@ -112,7 +76,7 @@ put_orderly _ from = tt
 settled_orderly : (c : Config) (tile line : ℕ) (h : Home) (requests : List Request) → StateIsOrderly h.state → IsOrderly (settled c tile line h requests).home
 settled_orderly c tile line h [] o = record { waits_while_busy = λ free. refl; state = o }
 settled_orderly c tile line h (q ∷ rest) o =
-    elim (cases_bool (is_busy h.state)) [
+    elim (cases_Bool (is_busy h.state)) [
       | inl t ↦ rw t (record { waits_while_busy = λ (free : is_busy h.state ≡ false). cc; state = o })
       | inr t ↦ rw t (settled_orderly c tile line (taken_up c tile line h q).home rest (request_orderly h.state q.write q.from o))
     ]

@@ -1,19 +1,21 @@
 -- The waiting requests, one after the other.
-use Rattle.std.proofs.Common.{◌≡◌, ℕ, true, false, List, [], ◌∷◌, ◌++◌, refl, sym, ap, ◌∙◌, inl, inr, append_assoc, append-nil, subst}
-use Rattle.sim_base.specs.declared.settings.Config.{Config}
-use Rattle.dir_slice.specs.Line.{Request, State, Home, Row, is_busy, request_row, awaited}
-use Rattle.dir_slice.specs.Inner.{IsMade}
-use Rattle.dir_slice.specs.Directory.{Mail, Step, before_mail, in_row_with_delay, farthest, in_row, taken_up, settled, settle}
+use Rattle.std.proofs.Common.{◌≡◌, ℕ, true, false, List, [], ◌∷◌, ◌++◌, map, refl, sym, ap, ◌∙◌, inl, inr, append_assoc, append-nil, subst}
 use Rattle.std.specs.Prelude.{Result, Ok, Err, IfOk}
+use Rattle.std.proofs.lemmas.Bool.{cases_Bool}
 use Rattle.sim_base.specs.declared.memory.NoMemory.{NoMemory}
+use Rattle.sim_base.specs.declared.settings.Config.{Config}
 use Rattle.mesh_model.specs.Cost.{delay_of}
-use Rattle.dir_slice.proofs.Sets.{cases_bool}
+use Rattle.dir_slice.specs.declared.rows.Sends.{Sends}
+use Rattle.dir_slice.specs.Line.{Request, State, Home, is_busy, request_row, awaited}
+use Rattle.dir_slice.specs.Inner.{sent_of, row_of, sent_mail, IsMade}
+use Rattle.dir_slice.specs.Directory.{Mail, Step, message, before_mail, in_row_with_delay, farthest, taken_up, settled}
+use Rattle.dir_slice.proofs.Sent.{messages-state}
 
 -- it is the list of requests that counts, and not what the home says of those that wait
 settled_anyway : (c : Config) (tile line : ℕ) (h : Home) (others requests : List Request) → settled c tile line (record h { waiting = others }) requests ≡ settled c tile line h requests
 settled_anyway c tile line h others [] = refl
 settled_anyway c tile line h others (q ∷ rest) =
-    elim (cases_bool (is_busy h.state)) [
+    elim (cases_Bool (is_busy h.state)) [
       | inl t ↦ rw t refl
       | inr t ↦ rw t (ap (before_mail (taken_up c tile line h q).mail) (settled_anyway c tile line (taken_up c tile line h q).home others rest))
     ]
@@ -61,23 +63,13 @@ none_left_busy c tile line first out_first now out_now left busy =
     let e : settled c tile line now now.waiting ≡ nothing now = settled_busy c tile line now now.waiting busy in
     record { home = ap (λ s. s.home) (sym e) ∙ left.home; mail = sym (append-nil out_now) ∙ ap (λ s. out_now ++ s.mail) (sym e) ∙ left.mail }
 
--- a row with its delay is a request taken up, whatever the state was meanwhile
-pub taken_up_made : (c : Config) (tile line : ℕ) (h now : Home) (q : Request) (meanwhile taken : State) (row : Row) (d : ℕ) (result : Result (Unit {0}) NoMemory) (new : Home) (out_old out_new : Mail)
-    → now ≡ record h { state = meanwhile } → taken ≡ h.state → row ≡ request_row taken q.write q.from → d ≡ delay_of c q.from tile (farthest c tile (awaited row.state))
-    → IfOk result (λ done. IsMade (in_row line (record now { delay = d }) row) new out_old out_new)
-    → IfOk result (λ done. IsMade (taken_up c tile line h q) new out_old out_new)
-taken_up_made c tile line h now q meanwhile taken row d result new out_old out_new now_is taken_is row_is d_is made =
-    let row_now : row ≡ request_row h.state q.write q.from = row_is ∙ ap (λ state. request_row state q.write q.from) taken_is in
-    let at_home = subst (λ o. IfOk result (λ done. IsMade (in_row line (record o { delay = d }) row) new out_old out_new)) now_is made in
-    let at_delay = subst (λ x. IfOk result (λ done. IsMade (in_row line (record h { delay = x }) row) new out_old out_new)) d_is at_home in
-    subst (λ r. IfOk result (λ done. IsMade (in_row_with_delay c tile line h q r) new out_old out_new)) row_now at_delay
-
--- the waiting requests are taken up after a row
-pub settled_after : (c : Config) (tile line : ℕ) (step : Step) (mid : Home) (out_old out_mid : Mail) (result : Result (Unit {0}) NoMemory) (new : Home) (out_new : Mail)
-    → IsMade step mid out_old out_mid → IfOk result (λ done. IsMade (settled c tile line mid mid.waiting) new out_mid out_new)
-    → IfOk result (λ done. IsMade (settle c tile line step) new out_old out_new)
-settled_after c tile line step mid out_old out_mid (Ok done) new out_new first then =
-    let later : Step = settled c tile line step.home step.home.waiting in
-    let made : IsMade later new out_mid out_new = subst (λ h. IsMade (settled c tile line h h.waiting) new out_mid out_new) first.home then in
-    record { home = made.home; mail = made.mail ∙ ap (λ mail. mail ++ later.mail) first.mail ∙ append_assoc out_old step.mail later.mail }
-settled_after c tile line step mid out_old out_mid (Err e) new out_new first then = tt
+-- what a request's row sends, with its delay, is what is sent where the request is taken up
+pub mail_taken_up : (c : Config) (tile line : ℕ) (h : Home) (q : Request) (state : State) (sends : Sends) (d : ℕ) (result : Result (Unit {0}) NoMemory) (out_old out_new : Mail)
+    → row_of state sends ≡ request_row h.state q.write q.from → d ≡ delay_of c q.from tile (farthest c tile (awaited state))
+    → IfOk result (λ done. out_new ≡ out_old ++ sent_mail line (record h { state = state; delay = d }) sends)
+    → IfOk result (λ done. out_new ≡ out_old ++ (taken_up c tile line h q).mail)
+mail_taken_up c tile line h q state sends d (Ok done) out_old out_new row delay sent =
+    subst (λ r. out_new ≡ out_old ++ (in_row_with_delay c tile line h q r).mail) row
+    (sent ∙ ap (λ mail. out_old ++ mail) (messages-state line (record h { delay = d }) state (sent_of state sends)
+    ∙ ap (λ x. map (message line (record h { delay = x })) (sent_of state sends)) delay))
+mail_taken_up c tile line h q state sends d (Err e) out_old out_new row delay sent = tt

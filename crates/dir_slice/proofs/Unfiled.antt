@@ -14,13 +14,13 @@ use Rattle.dir_slice.specs.Line.{fresh}
 use Rattle.dir_slice.specs.Inner.{has}
 use Rattle.dir_slice.specs.Laws.{StartsAsTheImage}
 use Rattle.dir_slice.specs.Directory.{file_lines, zero_line}
-use Rattle.dir_slice.proofs.Sets.{cases_bool}
+use Rattle.std.proofs.lemmas.Bool.{cases_Bool}
 use Rattle.dir_slice.proofs.Starts.{any-range, get-start}
 
 -- a segment gives 0 to each byte of a line that isn't of its file
 past_file : (s : Segment) (line address : ℕ) → has (file_lines s) line ≡ false → address / 64 ≡ line → holds s address ≡ true → byte_of s address ≡ 0
 past_file s line address none at held =
-    elim (cases_bool (nat_lt (address - s.vaddr) (length s.bytes))) [
+    elim (cases_Bool (nat_lt (address - s.vaddr) (length s.bytes))) [
       | inl t ↦
           let low : s.vaddr ≤ address = grind (arith, nat_tests) in
           let size : address - s.vaddr < length s.bytes = grind (arith, nat_tests) in
@@ -48,7 +48,7 @@ no_byte : (segments : List Segment) (line address : ℕ) → has (flat_map file_
 no_byte [] line address none at = refl
 no_byte (s ∷ ss) line address none at =
     let e : (has (file_lines s) line || has (flat_map file_lines ss) line) ≡ false = sym (list_any-append (nat_eq line) (file_lines s) (flat_map file_lines ss)) ∙ none in
-    elim (cases_bool (holds s address)) [
+    elim (cases_Bool (holds s address)) [
       | inl t ↦ rw t (past_file s line address (neither_first _ _ e) at t)
       | inr t ↦ rw t (no_byte ss line address (neither_second _ _ e) at)
     ]
@@ -66,7 +66,7 @@ unfiled w line none = ap (λ bytes. record { bytes = bytes }) (zeros (λ place. 
 pub starts_as_the_image : StartsAsTheImage
 starts_as_the_image w tile line homed =
     let t : nat_eq (home_of w.config line) tile ≡ true = eq-eqb _ _ homed in
-    elim (cases_bool (has (flat_map file_lines w.image.segments) line)) [
+    elim (cases_Bool (has (flat_map file_lines w.image.segments) line)) [
       | inl h ↦ rw (get-start, t, h) refl
       | inr h ↦ rw (get-start, t, h) (ap fresh (sym (unfiled w line h)))
     ]

@@ -1,10 +1,10 @@
 -- For the contracts and models of the code alone: no clause of a public function needs this. How the code keeps states
--- and rows, which nodes a home knows of, steps that were made, the lines of the start put one after the other, and how
--- slices are told apart.
-use Rattle.std.specs.Prelude.{ℕ, ◌≡◌, ◌==◌, ◌&&◌, ◌++◌, ◌<◌, ◌≤◌, ◌⊎◌, Bool, List, [], ◌∷◌, map, nat_eq, Option, Some, None, IfSome, is_some, if◌then◌else◌, refl}
+-- and what rows send, which nodes a home knows of, steps that were made, the lines of the start put one after the other,
+-- and how slices are told apart.
+use Rattle.std.specs.Prelude.{ℕ, ◌≡◌, ◌==◌, ◌&&◌, ◌++◌, ◌<◌, ◌≤◌, ◌⊎◌, Bool, List, [], ◌∷◌, map, nat_eq, Option, Some, None, IfSome, if◌then◌else◌, refl}
 use Rattle.std.specs.List.{All, list_any}
 use Rattle.std.specs.Coded.{Coded, code_by, coded×, coded⊎, coded_list, coded_ℕ, coded_bool}
-use Rattle.std.specs.FinMap.{FinMap, get, insert, code}
+use Rattle.std.specs.FinMap.{FinMap, get, code}
 use Rattle.std.specs.Ordering.{nat_cmp}
 use base.Stored.{coded_unit}
 use mathlib.Core.Logic.{inl, inr}
@@ -14,18 +14,16 @@ use Rattle.sim_base.specs.Numbering.{home_of}
 use Rattle.sim_base.specs.Settings.{IsChecked}
 use Rattle.elf_image.specs.Layout.{Setup, initial_line}
 use Rattle.wire_msg.specs.Message.{Up, acknowledges, answers, gives_up}
-use Rattle.dir_slice.specs.declared.home.Answer.{Answer}
-use Rattle.dir_slice.specs.declared.home.Answer.TheVariants.{Dropped, Fetched, GivenUp}
-use Rattle.dir_slice.specs.declared.rows.Next.{Next}
-use Rattle.dir_slice.specs.declared.rows.Next.TheVariants.{ByRow, Stays}
+use Rattle.dir_slice.specs.declared.states.Answer.{Answer}
+use Rattle.dir_slice.specs.declared.states.Answer.TheVariants.{Dropped, Fetched, GivenUp}
 use Rattle.dir_slice.specs.declared.rows.Sends.{Sends}
 use Rattle.dir_slice.specs.declared.rows.Sends.TheVariants.{Nothing, Invs, Fetch, Data}
 use Rattle.dir_slice.specs.declared.states.State.{State as KeptState}
 use Rattle.dir_slice.specs.declared.states.State.TheVariants.{Uncached as KeptUncached, Shared as KeptShared, Modified as KeptModified, BusyInv as KeptBusyInv, BusyFetch as KeptBusyFetch}
-use Rattle.dir_slice.specs.Line.{State, Uncached, Shared, Modified, BusyInv, BusyFetch, Request, Sent, drop_copy, fetch, give, Row, Home, fresh, awaited}
-use Rattle.dir_slice.specs.Directory.{Mail, Step, Slice, in_row, settle, zero_line}
+use Rattle.dir_slice.specs.Line.{State, Uncached, Shared, Modified, BusyInv, BusyFetch, Request, Sent, drop_copy, fetch, give, Row, Home, fresh, ack_row, fetch_row, put_row, awaited}
+use Rattle.dir_slice.specs.Directory.{Mail, Step, Slice, message, after_step, mail_of}
 
--- states and rows as the code keeps them
+-- states, and what rows send, as the code keeps them
 
 -- the state that the code's is
 abbrev pub state_of : KeptState → State
@@ -42,16 +40,32 @@ sent_of state Invs = map drop_copy (awaited state)
 sent_of state (Fetch write owner) = fetch write owner ∷ []
 sent_of state (Data write to) = give write to ∷ []
 
--- the table's row for this state, or the state where it has none
-abbrev pub IsNext : Next → State → Option Row → Type 0
-IsNext (ByRow row) state found = found ≡ Some row
-IsNext (Stays same) state found = (found ≡ None) × (state_of same ≡ state)
+-- the row that leads to a state, with what is sent
+abbrev pub row_of : State → Sends → Row
+row_of state sends = record { state = state; sent = sent_of state sends }
+
+-- the new state is that of the table's row, with what is sent, or the old one where the table has none
+abbrev pub IsNext : Option Sends → State → State → Option Row → Type 0
+IsNext (Some sends) old new found = found ≡ Some (row_of new sends)
+IsNext None old new found = (found ≡ None) × (new ≡ old)
 
 -- what a node's answer tells the home
 abbrev pub up_of_answer : Answer → Up
 up_of_answer Dropped = acknowledges
 up_of_answer (Fetched content) = answers content
 up_of_answer (GivenUp content) = gives_up content
+
+-- the table's row for it
+abbrev pub answer_row : State → ℕ → Answer → Option Row
+answer_row state from Dropped = ack_row state from
+answer_row state from (Fetched content) = fetch_row state from
+answer_row state from (GivenUp content) = put_row state from
+
+-- the home's memory after it
+abbrev pub memory_after : Answer → LineData → LineData
+memory_after Dropped memory = memory
+memory_after (Fetched content) memory = content
+memory_after (GivenUp content) memory = content
 
 -- which nodes a home knows of: tiles and the control server alone, whose number is the number of tiles
 
@@ -73,11 +87,6 @@ pub record IsWithin (tiles : ℕ) (h : Home) : Type 0 where
   pub state : StateIsWithin tiles h.state
   pub waiting : All (λ q. q.from ≤ tiles) h.waiting
 
--- the home that a row leads to, where the table has one for an answer
-abbrev pub NextIsWithin : ℕ → Home → Next → Type 0
-NextIsWithin tiles h (ByRow row) = IsWithin tiles (record h { state = row.state })
-NextIsWithin tiles h (Stays state) = Unit {0}
-
 -- and each node of each home
 abbrev pub AreWithin : ℕ → FinMap nat_cmp Home → Type 0
 AreWithin tiles homes = (line : ℕ) → IfSome (get homes line) (IsWithin tiles)
@@ -94,15 +103,14 @@ abbrev pub IsMadeIfAny : Option Step → Home → Home → Mail → Mail → Typ
 IsMadeIfAny None old new out_old out_new = (new ≡ old) × (out_new ≡ out_old)
 IsMadeIfAny (Some step) old new out_old out_new = IsMade step new out_old out_new
 
--- what a home makes of what the table has for an answer: the row with the memory, and then the waiting requests, or
--- the state where it has no row
-abbrev pub IsFollowed : Config → ℕ → ℕ → Home → LineData → Next → Home → Mail → Mail → Type 0
-IsFollowed c tile line old memory (ByRow row) new out_old out_new = IsMade (settle c tile line (in_row line (record old { memory = memory }) row)) new out_old out_new
-IsFollowed c tile line old memory (Stays state) new out_old out_new = (new ≡ record old { state = state_of state }) × (out_new ≡ out_old)
+-- the lines after a step of one, if one was made, with its messages sent
+pub record AreMade (line : ℕ) (step : Option Step) (old new : FinMap nat_cmp Home) (out_old out_new : Mail) : Type 0 where
+  pub homes : new ≡ after_step old line step
+  pub mail : out_new ≡ out_old ++ mail_of step
 
--- the lines while a line's home is out: a fresh one stands in its place, if it was known
-abbrev pub without_home : FinMap nat_cmp Home → ℕ → FinMap nat_cmp Home
-without_home homes line = if is_some (get homes line) then insert homes line (fresh zero_line) else homes
+-- the messages of what a home in a row's state sends
+abbrev pub sent_mail : ℕ → Home → Sends → Mail
+sent_mail line h sends = map (message line h) (sent_of h.state sends)
 
 -- the lines of the start, put one after the other
 

@@ -1,24 +1,15 @@
 -- What is true of the lines of a slice, whatever nodes tell their home, and before the program runs.
-use Rattle.std.specs.Prelude.{ℕ, ◌≡◌, ◌==◌, ◌<◌, Bool, false, List, [], ◌∷◌, fold, if◌then◌else◌, Option}
+use Rattle.std.specs.Prelude.{ℕ, ◌≡◌, ◌==◌, false, List, [], fold, if◌then◌else◌, Option}
 use Rattle.std.specs.FinMap.{FinMap}
-use Rattle.std.specs.List.{list_any, AllByRecursion}
 use Rattle.std.specs.Ordering.{nat_cmp}
 use Rattle.sim_base.specs.declared.lines.LineData.{LineData}
 use Rattle.sim_base.specs.declared.settings.Config.{Config}
 use Rattle.sim_base.specs.Numbering.{home_of}
 use Rattle.elf_image.specs.Layout.{Setup, initial_line}
 use Rattle.wire_msg.specs.Message.{Up}
+use Rattle.node_set.specs.NodeSet.{Ascends, has_node}
 use Rattle.dir_slice.specs.Line.{State, Shared, BusyInv, Home, fresh, is_busy}
 use Rattle.dir_slice.specs.Directory.{Step, reaction, home_after, home_at, after_step, start_homes}
-
--- a list that ascends strictly, so that no number stands twice in it
-abbrev pub Ascends : List ℕ → Type 0
-Ascends [] = Unit {0}
-Ascends (x ∷ xs) = AllByRecursion (λ y. x < y) xs × Ascends xs
-
--- whether a node is in a set
-abbrev pub has_node : ℕ → List ℕ → Bool
-has_node x nodes = list_any (λ y. y == x) nodes
 
 -- a state whose set of nodes ascends, and in which a writer waits for some node, and not for itself
 abbrev pub StateIsOrderly : State → Type 0

@@ -1,8 +1,9 @@
 -- One line at its home: an MSI directory protocol with busy states, after the full-map directories of Graphite
 -- (HPCA 2010). Nodes are numbers; a set of nodes is the list of them, ascending. Delays stand beside the protocol:
 -- a home keeps the one that was fixed when its last transaction began, and every line of data goes out with it.
-use Rattle.std.specs.Prelude.{ℕ, ◌==◌, not, Bool, true, false, nat_lt, List, [], ◌∷◌, map, filter, if◌then◌else◌, Option, Some, None}
+use Rattle.std.specs.Prelude.{ℕ, ◌==◌, Bool, true, false, List, [], ◌∷◌, map, if◌then◌else◌, Option, Some, None}
 use Rattle.sim_base.specs.declared.lines.LineData.{LineData}
+use Rattle.node_set.specs.NodeSet.{with_node, without}
 
 -- a request for a line: the node that asks, and whether it asks to write or only to read
 pub record Request : Type 0 where
@@ -18,17 +19,6 @@ pub data State : Type 0 where
   Modified : ℕ → State
   BusyInv : ℕ → List ℕ → State
   BusyFetch : Bool → ℕ → ℕ → State
-
--- sets of nodes
-
--- a set with one node more
-abbrev pub with_node : ℕ → List ℕ → List ℕ
-with_node x [] = x ∷ []
-with_node x (y ∷ ys) = if nat_lt x y then x ∷ y ∷ ys else (if x == y then y ∷ ys else y ∷ with_node x ys)
-
--- a set without a node
-abbrev pub without : ℕ → List ℕ → List ℕ
-without x nodes = filter (λ y. not (y == x)) nodes
 
 -- what a home sends: to drop a copy; to give a line up, for a reader (it stays in S) or for a writer; the line, to
 -- read or to write

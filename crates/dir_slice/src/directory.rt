@@ -5,9 +5,9 @@ ghost use Rattle.sim_base.specs.Numbering.{home_of};
 ghost use Rattle.sim_base.specs.Settings.{IsChecked};
 ghost use Rattle.wire_msg.specs.Message.{asks, acknowledges, answers, gives_up};
 
-use crate::home::{Answer, Home, Site};
+use crate::home::Site;
 use crate::homes::{Homes, zero_line};
-use crate::states::Request;
+use crate::states::{Answer, Request};
 use elf_image::World;
 use sim_base::{Config, Line, LineData, NoMemory, NodeId};
 use std::alloc::Global;
@@ -59,6 +59,7 @@ impl Dir {
 
     /// The 64 bytes that the home itself has of a line. They may be older than those of a tile that holds the line in
     /// M, or of a message that is on its way to the home.
+    #[inline]
     pub fn memory(&self, line: Line) -> LineData
         ensures { result ≡ (home_at self.now.homes line).memory }
     {
@@ -93,10 +94,8 @@ impl Dir {
             tile: self.tile,
             line,
         };
-        let known = self.homes.take(alloc, line);
-        let mut home = known.unwrap_or(Home::fresh(alloc, zero_line()));
-        home.request(alloc, site, Request { from, write }, out)?;
-        self.homes.put(line, home)?;
+        self.homes
+            .request(alloc, site, Request { from, write }, out)?;
         self.spent = false;
         Ok(())
     }
@@ -117,7 +116,7 @@ impl Dir {
         ensures { Answers result self.old self.new out.old.items out.new.items line
             (reaction config.now self.old.tile line (home_at self.old.homes line) from acknowledges) }
     {
-        self.answer(alloc, config, from, line, Answer::Dropped, out)
+        self.answer(config, from, line, &Answer::Dropped, out)
     }
 
     /// The owner of a line answers a fetch, with the line's data, which the home's memory has from then on: a reader
@@ -138,7 +137,7 @@ impl Dir {
             (reaction config.now self.old.tile line (home_at self.old.homes line) from (answers content.now)) }
     {
         let answer = Answer::Fetched { content: *content };
-        self.answer(alloc, config, from, line, answer, out)
+        self.answer(config, from, line, &answer, out)
     }
 
     /// The owner of a line gives it up by itself, with its data, which the home's memory has from then on. If it was
@@ -159,42 +158,37 @@ impl Dir {
             (reaction config.now self.old.tile line (home_at self.old.homes line) from (gives_up content.now)) }
     {
         let answer = Answer::GivenUp { content: *content };
-        self.answer(alloc, config, from, line, answer, out)
+        self.answer(config, from, line, &answer, out)
     }
 
     /// A node answers: it dropped its copy, or the owner sent the line.
     fn answer(
         &mut self,
-        alloc: Global,
         config: &Config,
         from: NodeId,
         line: Line,
-        answer: Answer,
+        answer: &Answer,
         out: &mut Out,
     ) -> Result<(), NoMemory>
         requires checked { IsChecked config.now }
         requires same_machine { config.now.tiles ≡ self.old.tiles }
         requires home { home_of config.now line ≡ self.old.tile }
         ensures { Answers result self.old self.new out.old.items out.new.items line
-            (reaction config.now self.old.tile line (home_at self.old.homes line) from (up_of_answer answer)) }
+            (reaction config.now self.old.tile line (home_at self.old.homes line) from (up_of_answer answer.now)) }
     {
         self.begin()?;
-        let Some(mut home) = self.homes.take(alloc, line) else {
-            self.spent = false;
-            return Ok(());
-        };
         let site = Site {
             config,
             tile: self.tile,
             line,
         };
-        home.answer(alloc, site, from, answer, out)?;
-        self.homes.put(line, home)?;
+        self.homes.answer(site, from, answer, out)?;
         self.spent = false;
         Ok(())
     }
 
     /// A call begins, unless the slice is spent. It is spent until the call ends.
+    #[inline]
     fn begin(&mut self) -> Result<(), NoMemory>
         ensures ok { IfOk result (λ _. (self.old.spent ≡ false) × (self.new ≡ record self.old { spent = true })) }
         ensures err { OnErr result ((self.new ≡ self.old) × (self.old.spent ≡ true)) }

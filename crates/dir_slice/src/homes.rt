@@ -1,18 +1,19 @@
-ghost use Rattle.std.specs.Prelude.{◌≡◌, ◌==◌, None, IfOk, OnErr};
+ghost use Rattle.std.specs.Prelude.{◌≡◌, ◌==◌, ◌≤◌, None, Some, IfOk, OnErr};
 ghost use Rattle.std.specs.FinMap as map;
 ghost use Rattle.std.specs.Option.{option_copied};
-ghost use Rattle.dir_slice.specs.Directory.{zero_line, file_lines, start_homes};
-ghost use Rattle.dir_slice.specs.Inner.{without_home, has, PutsLines};
+ghost use Rattle.dir_slice.specs.Directory.{zero_line, file_lines, start_homes, home_at, requested, reaction};
+ghost use Rattle.dir_slice.specs.Inner.{up_of_answer, has, PutsLines, IsSite, AreWithin, AreMade};
 ghost use Rattle.dir_slice.specs.Line.{fresh};
 ghost use Rattle.elf_image.specs.Image.{IsSegment};
 
-use crate::home::Home;
+use crate::home::{Home, Site};
+use crate::states::{Answer, Request};
 use elf_image::{Segment, World};
 use sim_base::{Line, LineData, NoMemory, NodeId};
 use std::alloc::Global;
 use std::collections::BTreeMap;
 use std::marker::Model;
-use std::mem;
+use wire_msg::Out;
 
 /// How many bytes a line has.
 const LINE_BYTES: u64 = 64;
@@ -106,22 +107,56 @@ impl Homes {
     }
 
     /// A line at its home, if it is known.
+    #[inline]
     pub(crate) fn get(&self, line: Line) -> Option<&Home>
         ensures { option_copied result ≡ map.get self.now line }
     {
         self.known.get(&line)
     }
 
-    /// Takes a line's home out, if it is known. A fresh one stands in its place for the while.
-    pub(crate) fn take(&mut self, alloc: Global, line: Line) -> Option<Home>
-        ensures home { result ≡ map.get self.old line }
-        ensures after { self.new ≡ without_home self.old line }
+    /// A node asks for a line. One that isn't known yet is fresh.
+    pub(crate) fn request(
+        &mut self,
+        alloc: Global,
+        site: Site<'_>,
+        request: Request,
+        out: &mut Out,
+    ) -> Result<(), NoMemory>
+        requires site { IsSite site.config.now site.tile }
+        requires within { AreWithin site.config.now.tiles self.old }
+        requires from_in_range { request.from ≤ site.config.now.tiles }
+        ensures within { AreWithin site.entry.config.now.tiles self.new }
+        ensures made { IfOk result (λ _. AreMade site.entry.line (Some (requested site.entry.config.now site.entry.tile site.entry.line (home_at self.old site.entry.line) request)) self.old self.new out.old.items out.new.items) }
     {
-        let slot = self.known.get_mut(&line)?;
-        Some(mem::replace(slot, Home::fresh(alloc, zero_line())))
+        if let Some(home) = self.known.get_mut(&site.line) {
+            return home.request(site, request, out);
+        }
+        let mut home = Home::fresh(alloc, zero_line());
+        home.request(site, request, out)?;
+        self.put(site.line, home)
+    }
+
+    /// A node answers to a line's home. A line that isn't known yet has no row for an answer.
+    pub(crate) fn answer(
+        &mut self,
+        site: Site<'_>,
+        from: NodeId,
+        answer: &Answer,
+        out: &mut Out,
+    ) -> Result<(), NoMemory>
+        requires site { IsSite site.config.now site.tile }
+        requires within { AreWithin site.config.now.tiles self.old }
+        ensures within { AreWithin site.entry.config.now.tiles self.new }
+        ensures made { IfOk result (λ _. AreMade site.entry.line (reaction site.entry.config.now site.entry.tile site.entry.line (home_at self.old site.entry.line) from (up_of_answer answer.now)) self.old self.new out.old.items out.new.items) }
+    {
+        if let Some(home) = self.known.get_mut(&site.line) {
+            return home.answer(site, from, answer, out);
+        }
+        Ok(())
     }
 
     /// Puts a line's home.
+    #[inline]
     pub(crate) fn put(&mut self, line: Line, home: Home) -> Result<(), NoMemory>
         ensures ok { IfOk result (λ _. self.new ≡ map.insert self.old line home) }
         ensures err { OnErr result (self.new ≡ self.old) }

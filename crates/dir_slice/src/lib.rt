@@ -8,7 +8,6 @@ mod home;
 mod homes;
 mod laws;
 mod rows;
-mod sharers;
 mod states;
 
 pub use directory::Dir;

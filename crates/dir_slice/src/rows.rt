@@ -1,12 +1,10 @@
-ghost use Rattle.std.specs.Prelude.{◌≡◌, true, IfOk};
-ghost use Rattle.dir_slice.specs.Inner.{state_of, IsNext};
-ghost use Rattle.dir_slice.specs.Line.{Shared, Modified, request_row, invalidate, ack_row, acked_by, fetch_row, fetched_by, put_row, put_by, given, same};
+ghost use Rattle.std.specs.Prelude.{◌≡◌, true, Some};
+ghost use Rattle.dir_slice.specs.Inner.{state_of, row_of, answer_row, IsNext};
+ghost use Rattle.dir_slice.specs.Line.{Modified, request_row, invalidate, ack_row, fetch_row, fetched_by, put_row, put_by, given};
 
-use crate::sharers::Sharers;
-use crate::states::{Request, State};
-use sim_base::{NoMemory, NodeId};
-use std::alloc::Global;
-use std::marker::Model;
+use crate::states::{Answer, Request, State};
+use node_set::NodeSet;
+use sim_base::NodeId;
 
 /// What a row of the directory's table sends.
 #[derive(Clone, Copy)]
@@ -21,195 +19,158 @@ pub(crate) enum Sends {
     Data { write: bool, to: NodeId },
 }
 
-/// What a row of the directory's table gives: the next state, and what is sent.
-#[derive(Drop)]
-pub(crate) struct Row {
-    pub(crate) state: State,
-    pub(crate) sends: Sends,
-}
-
-impl Model for Row {
-    ghost use Rattle.dir_slice.specs.Line.{Row};
-
-    ghost Value = { Row };
-
-    ghost use Rattle.dir_slice.specs.Inner.{state_of, sent_of};
-
-    ghost view = { λ r. record { state = state_of r.state; sent = sent_of (state_of r.state) r.sends } };
-}
-
-impl Row {
-    /// The state stays, and nothing is sent.
-    fn same(state: State) -> Row
-        ensures { result ≡ same (state_of state) }
-    {
-        Row {
-            state,
-            sends: Sends::Nothing,
-        }
-    }
-
-    /// The line goes to a reader or to a writer.
-    fn given(state: State, write: bool, to: NodeId) -> Row
-        ensures { result ≡ given (state_of state) write to }
-    {
-        Row {
-            state,
-            sends: Sends::Data { write, to },
-        }
-    }
-}
-
-/// What the directory's table has for an answer of a node.
-#[derive(Drop)]
-pub(crate) enum Next {
-    /// A row.
-    ByRow(Row),
-    /// No row: the state stays.
-    Stays(State),
-}
-
 impl State {
-    /// The row for a request, which is served while no transaction is under way.
-    pub(crate) fn serve(self, alloc: Global, request: Request) -> Result<Row, NoMemory>
-        ensures { IfOk result (λ row. row ≡ request_row (state_of self) request.write request.from) }
+    /// Goes to the state of the row for a request, which is served while no transaction is under way. The result is
+    /// what the row sends.
+    #[inline]
+    pub(crate) fn serve(&mut self, request: Request) -> Sends
+        ensures { row_of (state_of self.new) result ≡ request_row (state_of self.old) request.write request.from }
     {
         match self {
-            State::Uncached => grant(alloc, request.write, request.from),
-            State::Shared { sharers } => serve_shared(sharers, request),
-            State::Modified { owner } => Ok(fetch(owner, request)),
-            busy => Ok(Row::same(busy)),
+            State::Uncached => self.grant(request.write, request.from),
+            State::Shared { sharers } => {
+                if request.write {
+                    let mut others = sharers.copy();
+                    others.remove(request.from);
+                    return self.invalidate(request.from, others);
+                }
+                sharers.insert(request.from);
+                Sends::Data {
+                    write: false,
+                    to: request.from,
+                }
+            }
+            State::Modified { owner } => {
+                let owner = *owner;
+                self.fetch(owner, request)
+            }
+            _ => Sends::Nothing,
         }
     }
 
-    /// The row for an answer to an `Inv`: a copy was dropped.
-    pub(crate) fn acked(self, from: NodeId) -> Next
-        ensures { IsNext result (state_of self) (ack_row (state_of self) from) }
+    /// Goes to the state of the row for a node's answer, if the table has one. The result is then what the row sends.
+    #[inline]
+    pub(crate) fn answered(&mut self, from: NodeId, answer: &Answer) -> Option<Sends>
+        ensures { IsNext result (state_of self.old) (state_of self.new) (answer_row (state_of self.old) from answer.now) }
+    {
+        match answer {
+            Answer::Dropped => self.acked(from),
+            Answer::Fetched { .. } => self.fetched(from),
+            Answer::GivenUp { .. } => self.put(from),
+        }
+    }
+
+    /// The row for an answer to an `Inv`: a copy was dropped, and after the last one the writer gets the line.
+    fn acked(&mut self, from: NodeId) -> Option<Sends>
+        ensures { IsNext result (state_of self.old) (state_of self.new) (ack_row (state_of self.old) from) }
     {
         match self {
-            State::BusyInv {
-                requester,
-                mut left,
-            } => {
+            State::BusyInv { requester, left } => {
                 left.remove(from);
-                Next::ByRow(acked_by(requester, left))
+                if !left.is_empty() {
+                    return Some(Sends::Nothing);
+                }
+                let requester = *requester;
+                Some(self.grant_alone(requester))
             }
-            other => Next::Stays(other),
+            _ => None,
         }
     }
 
     /// The row for the owner's answer to a fetch.
-    pub(crate) fn fetched(self, alloc: Global, from: NodeId) -> Result<Next, NoMemory>
-        ensures { IfOk result (λ next. IsNext next (state_of self) (fetch_row (state_of self) from)) }
+    fn fetched(&mut self, from: NodeId) -> Option<Sends>
+        ensures { IsNext result (state_of self.old) (state_of self.new) (fetch_row (state_of self.old) from) }
     {
-        match self {
+        match *self {
             State::BusyFetch {
                 write,
                 requester,
                 owner,
-            } if owner == from => Ok(Next::ByRow(fetched_by(alloc, write, requester, owner)?)),
-            other => Ok(Next::Stays(other)),
+            } if owner == from => Some(self.fetched_by(write, requester, owner)),
+            _ => None,
         }
     }
 
     /// The row for an owner that gives the line up by itself, perhaps while it is asked for it.
-    pub(crate) fn put(self, alloc: Global, from: NodeId) -> Result<Next, NoMemory>
-        ensures { IfOk result (λ next. IsNext next (state_of self) (put_row (state_of self) from)) }
+    fn put(&mut self, from: NodeId) -> Option<Sends>
+        ensures { IsNext result (state_of self.old) (state_of self.new) (put_row (state_of self.old) from) }
     {
-        match self {
-            State::Modified { owner } if owner == from => Ok(Next::ByRow(Row::same(
-                State::Uncached,
-            ))),
+        match *self {
+            State::Modified { owner } if owner == from => {
+                *self = State::Uncached;
+                Some(Sends::Nothing)
+            }
             State::BusyFetch {
                 write,
                 requester,
                 owner,
-            } if owner == from => Ok(Next::ByRow(grant(alloc, write, requester)?)),
-            other => Ok(Next::Stays(other)),
+            } if owner == from => Some(self.grant(write, requester)),
+            _ => None,
         }
     }
-}
 
-/// A line that nobody holds goes to a reader or to a writer.
-fn grant(alloc: Global, write: bool, to: NodeId) -> Result<Row, NoMemory>
-    ensures { IfOk result (λ row. row ≡ put_by write to) }
-{
-    if write {
-        return Ok(granted_alone(to));
+    /// A line that nobody holds goes to a reader or to a writer.
+    #[inline]
+    fn grant(&mut self, write: bool, to: NodeId) -> Sends
+        ensures { row_of (state_of self.new) result ≡ put_by write to }
+    {
+        if write {
+            return self.grant_alone(to);
+        }
+        let sharers = NodeSet::of(to);
+        *self = State::Shared { sharers };
+        Sends::Data { write: false, to }
     }
-    let sharers = Sharers::of(alloc, to)?;
-    Ok(Row::given(State::Shared { sharers }, false, to))
-}
 
-/// A writer gets the line alone.
-fn granted_alone(to: NodeId) -> Row
-    ensures { result ≡ given (Modified to) true to }
-{
-    Row::given(State::Modified { owner: to }, true, to)
-}
-
-/// A request for a line that is held to read: the others drop their copies before a writer gets the line.
-fn serve_shared(mut sharers: Sharers, request: Request) -> Result<Row, NoMemory>
-    ensures { IfOk result (λ row. row ≡ request_row (Shared sharers) request.write request.from) }
-{
-    let node = request.from;
-    if request.write {
-        sharers.remove(node);
-        return Ok(invalidate(node, sharers));
+    /// A writer gets the line alone.
+    #[inline]
+    fn grant_alone(&mut self, to: NodeId) -> Sends
+        ensures { row_of (state_of self.new) result ≡ given (Modified to) true to }
+    {
+        *self = State::Modified { owner: to };
+        Sends::Data { write: true, to }
     }
-    sharers.insert(node)?;
-    Ok(Row::given(State::Shared { sharers }, false, node))
-}
 
-/// A writer waits until the others have dropped their copies, if there are any.
-fn invalidate(requester: NodeId, left: Sharers) -> Row
-    ensures { result ≡ invalidate requester left }
-{
-    if left.is_empty() {
-        return granted_alone(requester);
+    /// A writer waits until the others have dropped their copies, if there are any.
+    fn invalidate(&mut self, requester: NodeId, left: NodeSet) -> Sends
+        ensures { row_of (state_of self.new) result ≡ invalidate requester left }
+    {
+        if left.is_empty() {
+            return self.grant_alone(requester);
+        }
+        *self = State::BusyInv { requester, left };
+        Sends::Invs
     }
-    Row {
-        state: State::BusyInv { requester, left },
-        sends: Sends::Invs,
-    }
-}
 
-/// A copy was dropped: when the last one is, the writer gets the line.
-fn acked_by(requester: NodeId, left: Sharers) -> Row
-    ensures { result ≡ acked_by requester left }
-{
-    if left.is_empty() {
-        granted_alone(requester)
-    } else {
-        Row::same(State::BusyInv { requester, left })
-    }
-}
-
-/// The owner is asked for the line.
-fn fetch(owner: NodeId, request: Request) -> Row
-    ensures { result ≡ request_row (Modified owner) request.write request.from }
-{
-    Row {
-        state: State::BusyFetch {
+    /// The owner is asked for the line.
+    #[inline]
+    fn fetch(&mut self, owner: NodeId, request: Request) -> Sends
+        ensures { row_of (state_of self.new) result ≡ request_row (Modified owner) request.write request.from }
+    {
+        *self = State::BusyFetch {
             write: request.write,
             requester: request.from,
             owner,
-        },
-        sends: Sends::Fetch {
+        };
+        Sends::Fetch {
             write: request.write,
             owner,
-        },
+        }
     }
-}
 
-/// The owner answered a fetch: a reader shares the line with it, a writer gets it alone.
-fn fetched_by(alloc: Global, write: bool, requester: NodeId, owner: NodeId) -> Result<Row, NoMemory>
-    ensures { IfOk result (λ row. row ≡ fetched_by write requester owner) }
-{
-    if write {
-        return Ok(granted_alone(requester));
+    /// The owner answered a fetch: a reader shares the line with it, a writer gets it alone.
+    fn fetched_by(&mut self, write: bool, requester: NodeId, owner: NodeId) -> Sends
+        ensures { row_of (state_of self.new) result ≡ fetched_by write requester owner }
+    {
+        if write {
+            return self.grant_alone(requester);
+        }
+        let mut sharers = NodeSet::of(owner);
+        sharers.insert(requester);
+        *self = State::Shared { sharers };
+        Sends::Data {
+            write: false,
+            to: requester,
+        }
     }
-    let mut sharers = Sharers::of(alloc, owner)?;
-    sharers.insert(requester)?;
-    Ok(Row::given(State::Shared { sharers }, false, requester))
 }

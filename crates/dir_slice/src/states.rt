@@ -1,13 +1,12 @@
-ghost use Rattle.std.specs.Prelude.{◌≡◌, ◌<◌, ◌≤◌, All, IsTrue, ◌↔◌};
+ghost use Rattle.std.specs.Prelude.{◌≡◌, ◌<◌, ◌≤◌, All};
 ghost use Rattle.dir_slice.specs.Directory.{farthest};
 ghost use Rattle.dir_slice.specs.Line.{awaited, is_busy};
-ghost use Rattle.dir_slice.specs.Inner.{state_of, IsSite};
+ghost use Rattle.dir_slice.specs.Inner.{state_of, memory_after, IsSite, StateIsWithin};
 
-use crate::sharers::Sharers;
 use mesh_model::hops;
-use sim_base::{Config, NodeId};
+use node_set::NodeSet;
+use sim_base::{Config, LineData, NodeId};
 use std::marker::Model;
-use std::slice;
 
 /// A request for a line, which waits until its turn comes.
 #[derive(Clone, Copy)]
@@ -28,6 +27,31 @@ impl Model for Request {
     ghost inverse = { λ q. record { from = q.from; write = q.write } };
 }
 
+/// What a node answers to a line's home.
+#[derive(Clone, Copy)]
+pub(crate) enum Answer {
+    /// It dropped its copy.
+    Dropped,
+    /// The owner shares the line or gives it up, as it was asked to.
+    Fetched { content: LineData },
+    /// The owner gives the line up by itself.
+    GivenUp { content: LineData },
+}
+
+impl Answer {
+    /// The data that the answer brings is the home's memory from then on, if it brings any.
+    #[inline]
+    pub(crate) fn store(&self, memory: &mut LineData)
+        ensures { memory.new ≡ memory_after self.now memory.old }
+    {
+        match self {
+            Answer::Dropped => {}
+            Answer::Fetched { content } => *memory = *content,
+            Answer::GivenUp { content } => *memory = *content,
+        }
+    }
+}
+
 /// Who holds a line, as its home knows, and which transaction is under way.
 #[derive(Drop)]
 pub(crate) enum State {
@@ -35,7 +59,7 @@ pub(crate) enum State {
     Uncached,
     /// These nodes hold it to read.
     Shared {
-        sharers: Sharers,
+        sharers: NodeSet,
     },
     /// One node holds it to write.
     Modified {
@@ -44,7 +68,7 @@ pub(crate) enum State {
     /// A writer waits until these nodes have dropped their copies.
     BusyInv {
         requester: NodeId,
-        left: Sharers,
+        left: NodeSet,
     },
     /// A reader or a writer waits until the owner has shared the line or given it up.
     BusyFetch {
@@ -56,6 +80,7 @@ pub(crate) enum State {
 
 impl State {
     /// Whether a transaction is under way.
+    #[inline]
     pub(crate) fn is_busy(&self) -> bool
         ensures { result ≡ is_busy (state_of self.now) }
     {
@@ -66,26 +91,42 @@ impl State {
     }
 
     /// The nodes that the state waits for, which have to share the line or give it up.
-    pub(crate) fn awaited(&self) -> &[NodeId]
-        ensures { result.now ≡ awaited (state_of self.now) }
+    #[inline]
+    pub(crate) fn awaited(&self) -> NodeSet
+        ensures { result ≡ awaited (state_of self.now) }
     {
         match self {
-            State::BusyInv { left, .. } => left.as_slice(),
-            State::BusyFetch { owner, .. } => slice::from_ref(owner),
-            _ => &[],
+            State::BusyInv { left, .. } => left.copy(),
+            State::BusyFetch { owner, .. } => NodeSet::of(*owner),
+            _ => NodeSet::new(),
+        }
+    }
+
+    /// The greatest number of hops from a home to a node that the state waits for, 0 where it waits for none.
+    #[inline]
+    pub(crate) fn farthest(&self, config: &Config, tile: NodeId) -> u64
+        requires site { IsSite config.now tile }
+        requires within { StateIsWithin config.now.tiles (state_of self.now) }
+        ensures { result ≡ farthest config.now tile (awaited (state_of self.now)) }
+    {
+        match self {
+            State::BusyInv { left, .. } => farthest(config, tile, left.copy()),
+            State::BusyFetch { owner, .. } => hops(config, tile, *owner),
+            _ => 0,
         }
     }
 }
 
 /// The greatest number of hops from a home to one of these nodes, 0 where there is none.
-pub(crate) fn farthest(config: &Config, tile: NodeId, nodes: &[NodeId]) -> u64
+fn farthest(config: &Config, tile: NodeId, nodes: NodeSet) -> u64
     requires site { IsSite config.now tile }
-    requires within { All (λ node. node ≤ config.now.tiles) nodes.now }
-    ensures { result ≡ farthest config.now tile nodes.now }
+    requires within { All (λ node. node ≤ config.now.tiles) nodes }
+    ensures { result ≡ farthest config.now tile nodes }
 {
+    let mut left = nodes;
     let mut most = 0;
-    for node in nodes {
-        most = most.max(hops(config, tile, *node));
+    while let Some(node) = left.pop_first() {
+        most = most.max(hops(config, tile, node));
     }
     most
 }

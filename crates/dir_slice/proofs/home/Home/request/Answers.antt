@@ -1,8 +1,12 @@
--- One more request waits.
+-- One more request waits, or it is taken up alone.
 use Rattle.dir_slice.specs.Line.{Home}
 use Rattle.dir_slice.specs.Inner.{state_of}
-use Rattle.dir_slice.proofs.Nodes.{more_within}
+use Rattle.dir_slice.proofs.Nodes.{more_within, taken_up_within}
 use Rattle.dir_slice.proofs.home.Home.request.Goals as goal
+
+pub returns-then-not-is_busy-clause-within : goal.returns-then-not-is_busy-clause-within
+returns-then-not-is_busy-clause-within c =
+    rw c.take_up.ensures.home (taken_up_within c.args.site.config.now c.args.site.tile c.args.site.line c.args.self.now c.args.request c.requires.within c.requires.from_in_range)
 
 pub settle-requires-clause-within : goal.settle-requires-clause-within
 settle-requires-clause-within c =
