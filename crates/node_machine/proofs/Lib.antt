@@ -11,3 +11,5 @@ mod TrappingServers
 pub mod TrappingRuns
 pub mod StepsLemmas
 pub mod MakeLemmas
+mod AloneLemmas
+mod AloneRuns

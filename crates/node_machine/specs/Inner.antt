@@ -1,5 +1,5 @@
 -- For the contracts of the code alone: no clause of a public function needs this.
-use Rattle.std.specs.Prelude.{ℕ, ◌≡◌, ◌<◌, true, List, length, map, slice_get, slice_set, Option, Some, None, Result, Ok, Err}
+use Rattle.std.specs.Prelude.{ℕ, ◌≡◌, ◌<◌, ◌≤◌, ◌+◌, ◌-◌, true, List, [], length, map, slice_get, slice_set, Option, Some, None, Result, Ok, Err}
 use Rattle.sim_base.specs.declared.actions.Action.{Action}
 use Rattle.sim_base.specs.declared.memory.NoMemory.{NoMemory}
 use Rattle.elf_image.specs.Layout.{Setup}
@@ -11,6 +11,7 @@ use Rattle.event_journal.specs.Event.{acting_node}
 use Rattle.node_machine.specs.declared.nodes.Node.{Node}
 use Rattle.node_machine.specs.Pending.{Inbox, PendingData, queue_in, with_rest, first_of, rest_of, with_messages}
 use Rattle.node_machine.specs.Machine.{Act, quiet, can_step, node_step, node_delivered, IsNode}
+use Rattle.node_machine.specs.Alone.{stepped}
 
 -- each node of a list is the machine's of its number
 abbrev pub AreNodes : Setup → List Node → Type 0
@@ -53,3 +54,44 @@ pub record CanBeMade (event : Event) (nodes : List Node) : Type 0 where
 -- a message's sender and receiver are among so many nodes
 abbrev pub AreBelow : ℕ → Envelope → Type 0
 AreBelow count envelope = (envelope.from < count) × (envelope.to < count)
+
+-- steps of one node
+
+-- so many steps of a node can be made one after the other, and none but the last sends anything
+pub record AreSteps (w : Setup) (node : Node) (n : ℕ) : Type 0 where
+  pub some : 0 < n
+  pub can : (k : ℕ) → k < n → can_step (stepped w node k) ≡ true
+  pub quiet : (k : ℕ) → k + 1 < n → (node_step w (stepped w node k)).sent ≡ []
+
+-- what the last of them sends
+abbrev pub last_sent : Setup → Node → ℕ → List (ℕ × Msg)
+last_sent w node n = (node_step w (stepped w node (n - 1))).sent
+
+-- so far each of so many steps could be made and sent nothing, and the node can step
+pub record StepsSoFar (w : Setup) (node now : Node) (n : ℕ) : Type 0 where
+  pub here : now ≡ stepped w node n
+  pub can : (k : ℕ) → k < n + 1 → can_step (stepped w node k) ≡ true
+  pub quiet : (k : ℕ) → k < n → (node_step w (stepped w node k)).sent ≡ []
+
+-- what a node's steps answer
+abbrev pub NodeStepsOn : Setup → ℕ → Result ℕ NoMemory → Node → Node → List (ℕ × Msg) → Type 0
+NodeStepsOn w most (Ok n) old new sent = (n ≤ most) × AreSteps w old n × (new ≡ stepped w old n) × (sent ≡ last_sent w old n)
+NodeStepsOn w most (Err e) old new sent = Unit {0}
+
+-- the steps of a node among the machine's are made
+pub record StepsAreDone (w : Setup) (id most n : ℕ) (node : Node) (old new : List Node) (before after : PendingData) : Type 0 where
+  pub few : n ≤ most
+  pub are : AreSteps w node n
+  pub nodes : new ≡ slice_set old id (stepped w node n)
+  pub inboxes : after.inboxes ≡ with_messages id (last_sent w node n) before.inboxes
+  pub steps : after.steps ≡ map can_step new
+
+abbrev pub HaveStepped : Setup → ℕ → ℕ → Result ℕ NoMemory → List Node → List Node → PendingData → PendingData → Type 0
+HaveStepped w id most (Ok n) old new before after =
+    (node : Node) → slice_get old id ≡ Some node → StepsAreDone w id most n node old new before after
+HaveStepped w id most (Err e) old new before after = length new ≡ length old
+
+-- a node is there and can step
+pub record CanStepAt (id : ℕ) (nodes : List Node) : Type 0 where
+  pub in_range : id < length nodes
+  pub can : (node : Node) → slice_get nodes id ≡ Some node → can_step node ≡ true

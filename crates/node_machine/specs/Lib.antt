@@ -4,6 +4,7 @@ pub mod Commits
 pub mod Reading
 pub mod End
 pub mod Core
+pub mod Alone
 pub mod Shown
 pub mod Trapping
 pub mod Inner

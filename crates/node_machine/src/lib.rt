@@ -2,6 +2,7 @@
 //! what one event makes of it.
 #![tactic(auto)]
 
+mod alone;
 mod causes;
 mod cores;
 mod laws;

@@ -87,7 +87,7 @@ fn take(
 }
 
 /// What a node has sent joins the lists of its receivers, in order.
-fn post(from: NodeId, out: &mut Out, pending: &mut Pending) -> Result<(), NoMemory>
+pub(crate) fn post(from: NodeId, out: &mut Out, pending: &mut Pending) -> Result<(), NoMemory>
     requires from { from < length pending.old.inboxes }
     requires inboxes { AreInboxes (length pending.old.inboxes) pending.old.inboxes }
     ensures posted { OnOk result (pending.new ≡ record pending.old { inboxes = with_messages from out.old.items pending.old.inboxes }) }

@@ -1,0 +1,136 @@
+ghost use Rattle.std.specs.Prelude.{◌≡◌, ◌<◌, ◌≤◌, ◌+◌, [], true, length, map, slice_index, slice_set, OnOk};
+ghost use Rattle.node_machine.specs.Machine.{can_step, IsNode};
+ghost use Rattle.node_machine.specs.Pending.{AreInboxes};
+ghost use Rattle.node_machine.specs.Core.{is_full, IsCore};
+ghost use Rattle.node_machine.specs.Alone.{StepsOn};
+ghost use Rattle.node_machine.specs.Inner.{AreNodes, CanStepAt, NodeStepsOn, HaveStepped};
+
+use crate::cores::{ApplyFault, Core};
+use crate::making::post;
+use crate::nodes::Node;
+use crate::pending::Pending;
+use elf_image::World;
+use event_journal::Event;
+use sim_base::{NoMemory, NodeId};
+use std::alloc::Global;
+use wire_msg::Out;
+
+impl Core {
+    /// Makes steps of a node, one after the other, and gives how many: a tile's as long as it can step, may make one more
+    /// event, and has sent nothing; of another node one. Where not even one is enabled nothing changes.
+    pub fn step_on(&mut self, alloc: Global, world: &World, node: NodeId) -> Result<u32, ApplyFault>
+        requires { IsCore world.now self.old }
+        ensures steps { StepsOn world.now node result self.old self.new }
+        ensures fits { IsCore world.now self.new }
+    {
+        if self.spent {
+            return Err(ApplyFault::NoMemory);
+        }
+        if !self.is_enabled(Event::Step { node }) {
+            return Err(ApplyFault::NotEnabled);
+        }
+        let most = self.steps_at_once(node);
+        self.spent = true;
+        let Ok(count) = step_all(
+            alloc,
+            world,
+            node,
+            most,
+            &mut self.nodes,
+            &mut self.pending,
+            &mut self.out,
+        ) else {
+            return Err(ApplyFault::NoMemory);
+        };
+        count_steps(&mut self.made, &mut self.full, node, count, self.room);
+        self.spent = false;
+        Ok(count)
+    }
+
+    /// How many steps of a node, which may make one more event, are made one after the other at most.
+    fn steps_at_once(&self, node: NodeId) -> u32
+        requires in_range { node < length self.now.made }
+        requires room { slice_index self.now.made node < self.now.room }
+        ensures some { 0 < result }
+        ensures room { slice_index self.now.made node + result ≤ self.now.room }
+        ensures tile { 1 < result → node < self.now.tiles }
+    {
+        if (node as u32) < self.tiles {
+            self.room - self.made[node as usize]
+        } else {
+            1
+        }
+    }
+}
+
+impl Node {
+    /// Makes steps one after the other, as long as it can step and has sent nothing, and gives how many.
+    fn step_on(
+        &mut self,
+        alloc: Global,
+        world: &World,
+        id: NodeId,
+        most: u32,
+        out: &mut Out,
+    ) -> Result<u32, NoMemory>
+        requires fits { IsNode world.now id self.old }
+        requires can { can_step self.old ≡ true }
+        requires some { 0 < most }
+        requires none_sent { out.old.items ≡ [] }
+        ensures steps { NodeStepsOn world.now most result self.old self.new out.new.items }
+        ensures fits { IsNode world.now id self.new }
+    {
+        for done in 0..most {
+            self.step(alloc, world, id, out)?;
+            if !out.is_empty() || !self.can_step() {
+                return Ok(done + 1);
+            }
+        }
+        Ok(most)
+    }
+}
+
+/// Makes steps of one of the nodes, which can step; what the last one sends joins the lists.
+fn step_all(
+    alloc: Global,
+    world: &World,
+    id: NodeId,
+    most: u32,
+    nodes: &mut Vec<Node>,
+    pending: &mut Pending,
+    out: &mut Out,
+) -> Result<u32, NoMemory>
+    requires nodes { AreNodes world.now nodes.old.items }
+    requires steps { pending.old.steps ≡ map can_step nodes.old.items }
+    requires inboxes { AreInboxes (length nodes.old.items) pending.old.inboxes }
+    requires none_sent { out.old.items ≡ [] }
+    requires can { CanStepAt id nodes.old.items }
+    requires some { 0 < most }
+    ensures stepped { HaveStepped world.now id most result nodes.old.items nodes.new.items pending.old pending.new }
+    ensures nodes { AreNodes world.now nodes.new.items }
+    ensures inboxes { AreInboxes (length nodes.old.items) pending.new.inboxes }
+    ensures none_sent { OnOk result (out.new.items ≡ []) }
+{
+    let node = &mut nodes[id as usize];
+    let count = node.step_on(alloc, world, id, most, out)?;
+    pending.set_step(id, node.can_step());
+    post(id, out, pending)?;
+    Ok(count)
+}
+
+/// A node, which may make so many more events, has made them. It is noted whether some node may make none after them.
+#[tactic(auto, using(crate::proofs::MakeLemmas::full_set))]
+fn count_steps(made: &mut Vec<u32>, full: &mut bool, id: NodeId, steps: u32, room: u32)
+    requires in_range { id < length made.old.items }
+    requires below { slice_index made.old.items id < room }
+    requires room { slice_index made.old.items id + steps ≤ room }
+    requires full { full.old ≡ is_full room made.old.items }
+    ensures made { made.new.items ≡ slice_set made.old.items id (slice_index made.old.items id + steps) }
+    ensures full { full.new ≡ is_full room made.new.items }
+{
+    let count = &mut made[id as usize];
+    *count += steps;
+    if room <= *count {
+        *full = true;
+    }
+}
