@@ -32,19 +32,17 @@ use Rattle.seq_driver.specs.Driven.{state_after, IsJournal, IsRan, IsStuck, OneI
 use Rattle.seq_driver.specs.Inner.{choices_in, choice_in, drawn_in, after_draws, IsUnderWay, IsDrawing}
 use Rattle.seq_driver.proofs.ChoiceLemmas.{nobody_acts, drawn_can, picked_acts, none_drawn}
 
--- lists of events that the stream drew, one event longer
+-- lists of events that the stream drew, one after the other
 
-drawn-append : (w : Setup) (s : State Node Msg) (g : Lcg) (events : List Event) (event : Event) → AreDrawn w s g events
-    → end_of w (after (rules w) s events) ≡ None
-    → drawn_event (rules w) (node_count w.config) (after (rules w) s events) (after_draws g events) ≡ Some event
-    → AreDrawn w s g (events ++ event ∷ [])
-drawn-append w s g [] event drawn no_end is = (no_end, is, tt)
-drawn-append w s g (first ∷ events) event drawn no_end is =
-    (drawn.0, drawn.1, drawn-append w (happens (rules w) s first) (after_draw g) events event drawn.2 no_end is)
+pub drawn-join : (w : Setup) (s : State Node Msg) (g : Lcg) (events more : List Event) → AreDrawn w s g events
+    → AreDrawn w (after (rules w) s events) (after_draws g events) more → AreDrawn w s g (events ++ more)
+drawn-join w s g [] more drawn later = later
+drawn-join w s g (first ∷ events) more drawn later =
+    (drawn.0, drawn.1, drawn-join w (happens (rules w) s first) (after_draw g) events more drawn.2 later)
 
-draws-append : (g : Lcg) (events : List Event) (event : Event) → after_draws g (events ++ event ∷ []) ≡ after_draw (after_draws g events)
-draws-append g [] event = refl
-draws-append g (first ∷ events) event = draws-append (after_draw g) events event
+pub draws-join : (g : Lcg) (events more : List Event) → after_draws g (events ++ more) ≡ after_draws (after_draws g events) more
+draws-join g [] more = refl
+draws-join g (first ∷ events) more = draws-join (after_draw g) events more
 
 -- while there is no end each node may make one more event
 
@@ -122,9 +120,9 @@ pub draws_on : (w : Setup) (g : Lcg) (events : List Event) (event : Event) → I
     → drawn_event (rules w) (node_count w.config) (state_after w events) g ≡ Some event
     → IsDrawing w (after_draw g) (events ++ event ∷ [])
 draws_on w g events event drawing none is = record {
-  drawn = drawn-append w (start_state w) (start_stream w.config.seed) events event drawing.drawn none
-      (subst (λ h. drawn_event (rules w) (node_count w.config) (state_after w events) h ≡ Some event) drawing.stream is);
-  stream = ap after_draw drawing.stream ∙ sym (draws-append (start_stream w.config.seed) events event);
+  drawn = drawn-join w (start_state w) (start_stream w.config.seed) events (event ∷ []) drawing.drawn
+      (none, subst (λ h. drawn_event (rules w) (node_count w.config) (state_after w events) h ≡ Some event) drawing.stream is, tt);
+  stream = ap after_draw drawing.stream ∙ sym (draws-join (start_stream w.config.seed) events (event ∷ []));
 }
 
 -- no run has more events than all nodes may make

@@ -1,3 +1,4 @@
 pub mod ChoiceLemmas
 pub mod DrawLemmas
 pub mod ReplayLemmas
+mod LoneLemmas

@@ -1,6 +1,6 @@
 -- For the contracts of the code alone: no clause of a public function needs this. What is drawn of the machine that the
 -- program keeps.
-use Rattle.std.specs.Prelude.{ℕ, ◌≡◌, ◌++◌, Bool, false, List, [], ◌∷◌, map, slice_get, Option, Some, None}
+use Rattle.std.specs.Prelude.{ℕ, ◌≡◌, ◌<◌, ◌++◌, Bool, true, false, List, [], ◌∷◌, length, map, slice_get, Option, Some, None, Result, Ok, Err}
 use Rattle.rand_pcg.specs.Lcg.{Lcg}
 use Rattle.elf_image.specs.Layout.{Setup}
 use Rattle.event_journal.specs.declared.events.Event.{Event}
@@ -8,7 +8,9 @@ use Rattle.event_journal.specs.declared.events.Event.TheVariants.{Deliver}
 use Rattle.event_journal.specs.Choice.{own_step}
 use Rattle.node_machine.specs.Core.{CoreData, Shows, IsCore, steps_at, acting_in, senders_in}
 use Rattle.seq_driver.specs.Picked.{start_stream, next_word, after_word, after_draw, picked}
-use Rattle.seq_driver.specs.Driven.{state_after, IsJournal, IsDrawn}
+use Rattle.seq_driver.specs.declared.driver.DriveFault.{DriveFault}
+use Rattle.seq_driver.specs.declared.driver.DriveFault.TheVariants.{Stuck, NoMemory}
+use Rattle.seq_driver.specs.Driven.{state_after, IsJournal, IsDrawn, IsStuck}
 
 -- what a node can do: its step, if it can step, and then a delivery from each of these senders
 abbrev pub choices_in : Bool → ℕ → List ℕ → List Event
@@ -38,3 +40,15 @@ pub record IsUnderWay (w : Setup) (core : CoreData) (events : List Event) : Type
 pub record IsDrawing (w : Setup) (g : Lcg) (events : List Event) : Type 0 where
   pub drawn : IsDrawn w events
   pub stream : g ≡ after_draws (start_stream w.config.seed) events
+
+-- a node alone can act, and all that it can do is to step
+pub record IsLone (core : CoreData) (node : ℕ) : Type 0 where
+  pub acting : acting_in core ≡ node ∷ []
+  pub senders : senders_in core node ≡ []
+  pub steps : steps_at (slice_get core.nodes node) ≡ true
+
+-- one event or more was made, and the run is still under way; or there was none to make
+abbrev pub GoesOn : Setup → Result (Unit {0}) DriveFault → CoreData → Lcg → List Event → List Event → Type 0
+GoesOn w (Ok done) core g old new = (length old < length new) × IsUnderWay w core new × IsDrawing w g new
+GoesOn w (Err Stuck) core g old new = IsStuck w old
+GoesOn w (Err NoMemory) core g old new = Unit {0}

@@ -1,14 +1,17 @@
-ghost use Rattle.std.specs.Prelude.{◌≡◌, ◌+◌, ◌*◌};
+ghost use Rattle.std.specs.Prelude.{◌≡◌, ◌+◌, ◌*◌, ◌++◌, None, OnOk, OnErr, Err};
 ghost use Rattle.sim_base.specs.Numbering.{node_count};
 ghost use Rattle.sim_base.specs.Settings.{IsChecked};
 ghost use Rattle.seq_driver.specs.declared.driver.DriveFault.TheVariants.{NoMemory as OutOfMemory};
 ghost use Rattle.seq_driver.specs.Driven.{Drives};
+ghost use Rattle.seq_driver.specs.Inner.{IsUnderWay, IsDrawing, IsLone, GoesOn, after_draws};
+ghost use Rattle.node_machine.specs.Core.{end_in};
+ghost use Rattle.node_machine.specs.Alone.{steps_of};
 
-use crate::picking::{Stream, drawn_event};
+use crate::picking::{Stream, drawn_event, lone_stepper};
 use elf_image::World;
-use event_journal::Journal;
+use event_journal::{Event, Journal};
 use node_machine::{ApplyFault, Core, Ran};
-use sim_base::{Config, NoMemory};
+use sim_base::{Config, NoMemory, NodeId};
 use std::alloc::{AllocError, AllocFailed, Global};
 
 /// Why a run came to no end.
@@ -54,7 +57,7 @@ pub fn run_alone(alloc: Global, world: &World) -> Result<Ran, DriveFault>
 {
     let config = world.config();
     let mut core = Core::start(alloc, world)?;
-    let mut stream = Stream::new(config.seed);
+    let mut stream = Stream::new(alloc, config.seed, config.nodes() + 1)?;
     let mut journal = Journal {
         events: Vec::new(alloc),
     };
@@ -62,16 +65,94 @@ pub fn run_alone(alloc: Global, world: &World) -> Result<Ran, DriveFault>
         if let Some(end) = core.end() {
             return Ok(Ran { journal, core, end });
         }
-        let Some(event) = drawn_event(&core, &mut stream) else {
-            return Err(DriveFault::Stuck);
-        };
-        match core.apply(alloc, world, event) {
-            Ok(_) => journal.events.push(event)?,
-            Err(ApplyFault::NotEnabled) => return Err(DriveFault::Stuck),
-            Err(ApplyFault::NoMemory) => return Err(DriveFault::NoMemory),
-        }
+        go_on(alloc, world, &mut core, &mut stream, &mut journal)?;
     }
     Err(DriveFault::Stuck)
+}
+
+/// Makes the next event of a run without an end, or the next ones.
+fn go_on(
+    alloc: Global,
+    world: &World,
+    core: &mut Core,
+    stream: &mut Stream,
+    journal: &mut Journal,
+) -> Result<(), DriveFault>
+    requires under_way { IsUnderWay world.now core.old journal.old }
+    requires drawing { IsDrawing world.now stream.old journal.old }
+    requires no_end { end_in core.old ≡ None }
+    ensures { GoesOn world.now result core.new stream.new journal.old journal.new }
+{
+    match lone_stepper(core) {
+        Some(node) => step_on(alloc, world, core, stream, journal, node),
+        None => draw_one(alloc, world, core, stream, journal),
+    }
+}
+
+/// Makes the event that the stream draws.
+fn draw_one(
+    alloc: Global,
+    world: &World,
+    core: &mut Core,
+    stream: &mut Stream,
+    journal: &mut Journal,
+) -> Result<(), DriveFault>
+    requires under_way { IsUnderWay world.now core.old journal.old }
+    requires drawing { IsDrawing world.now stream.old journal.old }
+    requires no_end { end_in core.old ≡ None }
+    ensures { GoesOn world.now result core.new stream.new journal.old journal.new }
+{
+    let Some(event) = drawn_event(core, stream) else {
+        return Err(DriveFault::Stuck);
+    };
+    match core.apply(alloc, world, event) {
+        Ok(_) => journal.events.push(event)?,
+        Err(ApplyFault::NotEnabled) => return Err(DriveFault::Stuck),
+        Err(ApplyFault::NoMemory) => return Err(DriveFault::NoMemory),
+    }
+    Ok(())
+}
+
+/// Makes steps of the only node that can act, which can do nothing else: whatever the stream's words are, they draw these.
+fn step_on(
+    alloc: Global,
+    world: &World,
+    core: &mut Core,
+    stream: &mut Stream,
+    journal: &mut Journal,
+    node: NodeId,
+) -> Result<(), DriveFault>
+    requires under_way { IsUnderWay world.now core.old journal.old }
+    requires drawing { IsDrawing world.now stream.old journal.old }
+    requires no_end { end_in core.old ≡ None }
+    requires lone { IsLone core.old node }
+    ensures { GoesOn world.now result core.new stream.new journal.old journal.new }
+{
+    match core.step_on(alloc, world, node) {
+        Ok(count) => note_steps(stream, journal, node, count)?,
+        Err(ApplyFault::NotEnabled) => return Err(DriveFault::Stuck),
+        Err(ApplyFault::NoMemory) => return Err(DriveFault::NoMemory),
+    }
+    Ok(())
+}
+
+/// So many steps of a node join the journal, and the stream passes the words that drew them.
+fn note_steps(
+    stream: &mut Stream,
+    journal: &mut Journal,
+    node: NodeId,
+    count: u32,
+) -> Result<(), DriveFault>
+    ensures journal { OnOk result (journal.new ≡ journal.old ++ steps_of node count) }
+    ensures stream { OnOk result (stream.new ≡ after_draws stream.old (steps_of node count)) }
+    ensures memory { OnErr result (result ≡ Err OutOfMemory) }
+{
+    for _ in 0..count {
+        stream.next();
+        stream.next();
+        journal.events.push(Event::Step { node })?;
+    }
+    Ok(())
 }
 
 /// How many turns a run takes at most: one for each event that the nodes may make, and one that finds the end.

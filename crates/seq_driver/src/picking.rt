@@ -1,19 +1,23 @@
-ghost use Rattle.std.specs.Prelude.{◌≡◌, ◌%◌, ◌<◌, None, IfSome, false};
+ghost use Rattle.std.specs.Prelude.{◌≡◌, ◌%◌, ◌<◌, None, IfOk, IfSome, false};
 ghost use Rattle.seq_driver.specs.Picked.{start_stream, next_word, after_word, after_draw, picked};
-ghost use Rattle.seq_driver.specs.Inner.{choices_in, drawn_in};
+ghost use Rattle.seq_driver.specs.Inner.{choices_in, drawn_in, IsLone};
 
+use divisors::Divisors;
 use event_journal::Event;
 use node_machine::Core;
 use node_set::NodeSet;
 use rand_core::utils::NextWord;
 use rand_pcg::Lcg64Xsh32;
-use sim_base::NodeId;
+use sim_base::{NoMemory, NodeId};
+use std::alloc::Global;
 use std::marker::Model;
 
-/// The stream of random words by which a run's events are drawn: PCG's XSH RR generator on 64 bits, stream 0.
+/// The stream of random words by which a run's events are drawn: PCG's XSH RR generator on 64 bits, stream 0. Beside it stand
+/// the divisors of the numbers of members of which words pick.
 #[derive(Drop)]
 pub(crate) struct Stream {
     generator: Lcg64Xsh32,
+    divisors: Divisors,
 }
 
 impl Model for Stream {
@@ -25,14 +29,17 @@ impl Model for Stream {
 }
 
 impl Stream {
-    /// The stream of a seed, before its first word.
+    /// The stream of a seed, before its first word, for picks of as many members as this or fewer.
     #[tactic(auto, unfolding(crate::specs::Picked::start_stream))]
-    pub(crate) fn new(seed: u64) -> Stream
-        ensures { result ≡ start_stream seed }
+    pub(crate) fn new(alloc: Global, seed: u64, members: u32) -> Result<Stream, NoMemory>
+        ensures { IfOk result (λ stream. stream ≡ start_stream seed) }
     {
-        Stream {
-            generator: Lcg64Xsh32::new(seed, 0),
-        }
+        let generator = Lcg64Xsh32::new(seed, 0);
+        let divisors = Divisors::up_to(alloc, members)?;
+        Ok(Stream {
+            generator,
+            divisors,
+        })
     }
 
     /// Its next word.
@@ -53,20 +60,44 @@ pub(crate) fn drawn_event(core: &Core, stream: &mut Stream) -> Option<Event>
 {
     let first = stream.next();
     let second = stream.next();
-    let node = picked(core.acting(), first)?;
-    choice(node, core.can_step(node), core.senders(node), second)
+    let divisors = &stream.divisors;
+    let node = picked(divisors, core.acting(), first)?;
+    choice(
+        divisors,
+        node,
+        core.can_step(node),
+        core.senders(node),
+        second,
+    )
+}
+
+/// The node that alone can act, where there is one, and where all that it can do is to step.
+pub(crate) fn lone_stepper(core: &Core) -> Option<NodeId>
+    requires { core.now.spent ≡ false }
+    ensures { IfSome result (IsLone core.now) }
+{
+    let acting = core.acting();
+    if acting.len() != 1 {
+        return None;
+    }
+    let node = acting.get(0)?;
+    if core.can_step(node) && core.senders(node).is_empty() {
+        Some(node)
+    } else {
+        None
+    }
 }
 
 /// The node that a word picks of these: the one at the word modulo their number.
-fn picked(nodes: &NodeSet, word: u32) -> Option<NodeId>
+fn picked(divisors: &Divisors, nodes: &NodeSet, word: u32) -> Option<NodeId>
     ensures { result ≡ picked nodes.now word }
 {
-    let place = place_of(word, nodes.len())?;
+    let place = place_of(divisors, word, nodes.len())?;
     nodes.get(place)
 }
 
 /// The place that a word picks of so many: the word modulo their number.
-fn place_of(word: u32, count: usize) -> Option<usize>
+fn place_of(divisors: &Divisors, word: u32, count: usize) -> Option<usize>
     ensures none { result ≡ None → count ≡ 0 }
     ensures place { IfSome result (λ place. place ≡ word % count) }
     ensures within { IfSome result (λ place. place < count) }
@@ -74,16 +105,22 @@ fn place_of(word: u32, count: usize) -> Option<usize>
     match count {
         0 => None,
         1 => Some(0),
-        _ => Some(word as usize % count),
+        _ => Some(divisors.remainder(u64::from(word), count) as usize),
     }
 }
 
 /// The event that a word picks of what a node can do: its step, if it can step, and deliveries from these senders.
-fn choice(node: NodeId, can_step: bool, senders: &NodeSet, word: u32) -> Option<Event>
+fn choice(
+    divisors: &Divisors,
+    node: NodeId,
+    can_step: bool,
+    senders: &NodeSet,
+    word: u32,
+) -> Option<Event>
     ensures { result ≡ picked (choices_in can_step node senders.now) word }
 {
     let steps = if can_step { 1 } else { 0 };
-    let place = place_of(word, steps + senders.len())?;
+    let place = place_of(divisors, word, steps + senders.len())?;
     if place < steps {
         return Some(Event::Step { node });
     }
