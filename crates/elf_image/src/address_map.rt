@@ -167,6 +167,7 @@ impl World {
     /// The instruction at an address, lent: that of the word that [`World::fetch`] gives there, decoded when the
     /// image was made. None where the address can't be fetched from, isn't a multiple of 4, as every pc of a run
     /// is, or the word has no row.
+    #[inline]
     pub fn instruction(&self, pc: u64) -> Option<&Instr>
         ensures value { option_copied result ≡ instruction self.now pc }
         ensures valid { IfSome result (λ instr. IsValid instr.now) }
@@ -175,6 +176,7 @@ impl World {
     }
 
     /// Whether each of the `size` bytes from `addr` has a right. A range that passes 2^64 has none.
+    #[inline]
     pub fn may(&self, addr: u64, size: u64, right: Right) -> bool
         ensures { result ≡ may self.now addr size right }
     {
@@ -239,6 +241,7 @@ impl World {
     }
 
     /// So many bytes from an address on lie in the heap window or on one stack, where each may be read and written.
+    #[inline]
     fn free_from(&self, address: u64) -> u64
         ensures { AreFree self.now address result }
     {
@@ -250,6 +253,7 @@ impl World {
     }
 
     /// So many bytes from an address on are left on its stack; none where it lies on no stack.
+    #[inline]
     fn left_on_stack(&self, address: u64) -> u64
         ensures on { nat_lt 0 result ≡ is_stack self.now address }
         ensures free { AreFree self.now address result }

@@ -48,6 +48,7 @@ impl Decoded {
 
     /// Lends the row at a multiple of 4.
     #[tactic(auto, unfolding(crate::specs::Decoded::found_in))]
+    #[inline]
     pub fn instruction(&self, pc: u64) -> Option<&Instr>
         ensures { option_copied result ≡ found_in self.now pc }
     {
@@ -71,6 +72,7 @@ pub fn decode_all(alloc: Global, segments: &[Segment]) -> Result<Vec<Decoded>, N
 }
 
 /// Lends the first row at a multiple of 4.
+#[inline]
 pub fn first_found(tables: &[Decoded], pc: u64) -> Option<&Instr>
     ensures { option_copied result ≡ first_found tables.now pc }
 {

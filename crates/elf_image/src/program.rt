@@ -71,6 +71,7 @@ impl Segment {
     }
 
     /// Whether it has all of a range.
+    #[inline]
     fn holds_range(&self, address: u64, size: u64) -> bool
         ensures { result ≡ holds_range address size self.now }
     {
@@ -78,6 +79,7 @@ impl Segment {
     }
 
     /// Whether it grants a right.
+    #[inline]
     fn grants(&self, right: Right) -> bool
         ensures { result ≡ grants right self.now }
     {
@@ -214,6 +216,7 @@ impl Image {
     }
 
     /// Whether one segment grants a right to all of a range.
+    #[inline]
     pub(crate) fn grants_range(&self, address: u64, size: u64, right: Right) -> bool
         ensures { result ≡ list_any (grants_range right address size) self.now.segments }
     {
@@ -234,6 +237,7 @@ impl Image {
     /// Lends the instruction at an address, if one executable segment has its four bytes and the word has a row.
     /// An address that isn't a multiple of 4 has none.
     #[tactic(auto, unfolding(crate::specs::Decoded::program_row))]
+    #[inline]
     pub(crate) fn instruction(&self, pc: u64) -> Option<&Instr>
         ensures value { option_copied result ≡ program_row self.now pc }
     {

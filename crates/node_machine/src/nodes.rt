@@ -38,6 +38,7 @@ impl Node {
     }
 
     /// Whether it can make a step of its own.
+    #[inline(always)]
     pub fn can_step(&self) -> bool
         ensures { result ≡ can_step self.now }
     {
@@ -50,6 +51,7 @@ impl Node {
 
     /// Its step, which it can make. It appends what it sends, with the receivers, and gives the action that this commits,
     /// if it does.
+    #[inline(always)]
     pub fn step(
         &mut self,
         alloc: Global,

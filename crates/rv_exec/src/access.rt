@@ -121,6 +121,7 @@ pub struct Done {
 /// What an access gives where its bytes hold the number `old`. Numbers in memory are little-endian, and
 /// have as many bytes as the access. A store-conditional is taken to succeed: it gives 0 and writes. The
 /// rules are those of the RISC-V ISA manual.
+#[inline(always)]
 pub fn finish(access: &Access, old: u64) -> Done
     requires { old < 2 ^ (8 * access.now.size) }
     ensures { result ≡ finish_of access.now old }
@@ -145,6 +146,7 @@ pub fn finish(access: &Access, old: u64) -> Done
 }
 
 /// What is read where an access's bytes hold the number `old`: with its sign, where it has one.
+#[inline(always)]
 fn as_read(access: &Access, old: u64) -> u64
     requires { old < 2 ^ (8 * access.now.size) }
     ensures { result ≡ as_read access.now old }
@@ -170,6 +172,7 @@ fn new_number(op: AmoOp, old: u64, value: u64, size: u8) -> u64
 }
 
 /// A number of `size` bytes as 64 bits with the same signed value.
+#[inline(always)]
 fn with_sign(n: u64, size: u8) -> u64
     requires sized { IsTrue (is_size size) }
     requires fits { n < 2 ^ (8 * size) }
@@ -185,6 +188,7 @@ fn with_sign(n: u64, size: u8) -> u64
 }
 
 /// The low `size` bytes of a number.
+#[inline(always)]
 fn low_part(n: u64, size: u8) -> u64
     requires { IsTrue (is_size size) }
     ensures { result ≡ low_bytes size n }

@@ -8,6 +8,7 @@ use sim_base::CostClass;
 /// this simulator's own. Multiplications, with MULW among them, are `Mul`; the eight divisions and
 /// remainders `Div`; loads and stores `Mem`; load-reserved, store-conditional and the atomic memory
 /// operations `Amo`; ECALL is `Call`. All others are `Alu`.
+#[inline(always)]
 pub fn class(instr: &Instr) -> CostClass
     ensures { result ≡ class_of instr.now }
 {

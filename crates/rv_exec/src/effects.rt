@@ -22,6 +22,7 @@ use sim_base::Cause;
 /// A jump, or a branch that is taken, to an address that isn't a multiple of 4 traps; a branch
 /// that isn't taken goes on, whatever its target. A load, a store or an atomic whose address isn't a
 /// multiple of its size traps. A FENCE does nothing.
+#[inline(always)]
 pub fn effect(instr: &Instr, regs: &Regs, pc: u64) -> Meaning
     requires { IsValid instr.now }
     ensures meaning { result ≡ effect_of instr.now regs.now pc }
@@ -75,6 +76,7 @@ pub fn effect(instr: &Instr, regs: &Regs, pc: u64) -> Meaning
 }
 
 /// A value for `rd`, below 32, and the next instruction.
+#[inline(always)]
 fn go_on(rd: u8, value: u64, pc: u64) -> Meaning
     requires { rd < 32 }
     ensures meaning { result ≡ advance rd value pc }
@@ -86,6 +88,7 @@ fn go_on(rd: u8, value: u64, pc: u64) -> Meaning
 
 /// A value for `rd`, below 32, and the instruction at `target`; a trap where that isn't a multiple
 /// of 4.
+#[inline(always)]
 fn jump_to(rd: u8, value: u64, target: u64) -> Meaning
     requires { rd < 32 }
     ensures meaning { result ≡ jump rd value target }
@@ -105,6 +108,7 @@ fn jump_to(rd: u8, value: u64, target: u64) -> Meaning
 }
 
 /// A load to `rd`, below 32; a trap where `addr` isn't a multiple of its size.
+#[inline(always)]
 fn load_from(op: Op, rd: u8, addr: u64) -> Meaning
     requires load { IsTrue (is_load op) }
     requires register { rd < 32 }
@@ -132,6 +136,7 @@ fn load_from(op: Op, rd: u8, addr: u64) -> Meaning
 }
 
 /// A store of `value`; a trap where `addr` isn't a multiple of its size.
+#[inline(always)]
 fn store_to(op: Op, addr: u64, value: u64) -> Meaning
     requires { IsTrue (is_store op) }
     ensures meaning { result ≡ access_or_trap (store_of op addr value) StoreMisaligned }
@@ -196,6 +201,7 @@ fn cause_of_misaligned_atomic(op: Op) -> Cause
 }
 
 /// Whether an address is a multiple of an access's size.
+#[inline(always)]
 fn is_multiple(addr: u64, size: u8) -> bool
     requires { IsTrue (is_size size) }
     ensures { result ≡ addr % size == 0 }

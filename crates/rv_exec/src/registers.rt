@@ -32,6 +32,7 @@ impl Regs {
     }
 
     /// What register `i` holds. The caller gives a number below 32.
+    #[inline(always)]
     pub fn get(&self, i: u8) -> u64
         requires { i < 32 }
         ensures value { result ≡ register self.now i }
@@ -41,6 +42,7 @@ impl Regs {
     }
 
     /// Writes a value to register `i`, which is below 32. A write to register 0 changes nothing.
+    #[inline(always)]
     pub fn set(&mut self, i: u8, value: u64)
         requires { i < 32 }
         ensures value { self.new ≡ with_register self.old i value }

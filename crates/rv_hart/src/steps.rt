@@ -55,6 +55,7 @@ pub enum Step {
 /// The next step of a hart with these registers, this pc and this reservation, on which thread number `thread` runs.
 /// Traps come in the order of the RISC-V ISA manual: the fetch, an illegal word, the address's alignment, then the
 /// rights of the bytes, which are this simulator's own; a store-conditional's reservation is looked at last.
+#[inline(always)]
 pub fn next_step(
     world: &World,
     regs: &Regs,
@@ -82,6 +83,7 @@ pub fn next_step(
 }
 
 /// What an instruction at `pc` does.
+#[inline(always)]
 fn instruction_step(
     world: &World,
     instr: &Instr,
@@ -108,6 +110,7 @@ fn instruction_step(
 }
 
 /// An access: its bytes' rights are tested first, then a store-conditional's reservation.
+#[inline(always)]
 fn access_step(world: &World, reservation: Option<Span>, access: Access) -> Step
     ensures step { result ≡ access_step world.now reservation access }
     ensures known { IsStep world.now result }
@@ -125,6 +128,7 @@ fn access_step(world: &World, reservation: Option<Span>, access: Access) -> Step
 }
 
 /// The right that an access needs of its bytes.
+#[inline(always)]
 fn right_of(op: AccessOp) -> Right
     ensures { result ≡ right_of op }
 {

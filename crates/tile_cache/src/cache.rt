@@ -54,6 +54,7 @@ impl Cache {
     }
 
     /// Lends a line, with how it is held, if it is there.
+    #[inline]
     pub fn get(&self, line: Line) -> Option<&Way>
         ensures { option_copied result ≡ way_of self.now line }
     {
@@ -72,6 +73,7 @@ impl Cache {
     }
 
     /// Makes a line that is there the most recent of its set.
+    #[inline]
     pub fn touch(&mut self, line: Line)
         requires { IsSome (hold_of self.old line) }
         ensures cache { self.new ≡ touched self.old line }
@@ -83,6 +85,7 @@ impl Cache {
 
     /// Writes a number's low `size` bytes, little-endian as in RISC-V, from `offset` on of a line that is
     /// held in M. `size` is at most 8.
+    #[inline]
     pub fn write(&mut self, line: Line, offset: u8, size: u8, value: u64)
         requires held { hold_of self.old line ≡ Some Hold.M }
         requires sized { size ≤ 8 }
@@ -142,6 +145,7 @@ impl Cache {
     }
 
     /// The number of a line's set.
+    #[inline]
     fn number(&self, line: Line) -> usize
         ensures number { result ≡ set_number self.now line }
         ensures within { result < length self.now.sets }
@@ -150,6 +154,7 @@ impl Cache {
     }
 
     /// A line's set.
+    #[inline]
     fn set(&self, line: Line) -> &Set
         ensures ways { result.now.ways.items ≡ set_of self.now line }
         ensures known { IsCache self.now }

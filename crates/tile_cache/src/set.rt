@@ -31,6 +31,7 @@ impl Set {
     }
 
     /// What it has of a line.
+    #[inline]
     pub(crate) fn find(&self, line: Line) -> Option<&Way>
         ensures { option_copied result ≡ find (has_line line) self.now.ways.items }
     {
@@ -45,6 +46,7 @@ impl Set {
     }
 
     /// The place of a line.
+    #[inline]
     fn position(&self, line: Line) -> Option<usize>
         ensures { result ≡ position (has_line line) self.now.ways.items }
     {
@@ -52,6 +54,7 @@ impl Set {
     }
 
     /// Brings a line to the front as it is.
+    #[inline]
     pub(crate) fn touch(&mut self, line: Line)
         requires { has_repeat self.old.ways.items ≡ false }
         ensures ways { self.new.ways.items ≡ touched_ways line self.old.ways.items }
@@ -89,6 +92,7 @@ impl Set {
     }
 
     /// Writes a number's low `size` bytes into a line from `offset` on.
+    #[inline]
     pub(crate) fn write(&mut self, line: Line, offset: u8, size: u8, value: u64)
         requires once { has_repeat self.old.ways.items ≡ false }
         requires sized { size ≤ 8 }

@@ -182,6 +182,7 @@ impl TileCore {
 
     /// What the next instruction of the thread asks of the tile. It changes nothing. It means something only while the
     /// thread runs.
+    #[inline(always)]
     pub fn next(&self, world: &World) -> Plan
         ensures plan { result ≡ plan_of world.now self.now }
         ensures known { IsPlan world.now result }

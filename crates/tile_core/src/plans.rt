@@ -50,6 +50,7 @@ pub enum Plan {
 }
 
 /// What a hart's step at this pc is to its tile.
+#[inline(always)]
 pub(crate) fn plan_for(world: &World, pc: u64, step: Step) -> Plan
     requires { IsStep world.now step }
     ensures plan { result ≡ plan_by world.now pc step }

@@ -83,6 +83,7 @@ pub(crate) fn delayed(clock: u64, cost: u64, delay: u64) -> u64
 impl TileNode {
     /// Does an access of its thread, whose bytes hold the number `old`, on a line of the cache. The clock stands.
     #[tactic(auto, using(crate::proofs::Facts::writes_only))]
+    #[inline(always)]
     pub(crate) fn do_access(&mut self, access: &Access, old: u64)
         requires number { old < 2 ^ (8 * access.now.size) }
         requires held { is_write access.now.op ≡ true → hold_of self.old.cache (line_at access.now.addr) ≡ Some Hold.M }
@@ -101,6 +102,7 @@ impl TileNode {
     }
 
     /// An instruction of its thread commits.
+    #[inline(always)]
     pub(crate) fn commit(&mut self) -> Action
         ensures tile { self.new ≡ record self.old { instr = one_more self.old.instr } }
         ensures action { result ≡ Action.Exec self.old.core.thread }

@@ -56,6 +56,7 @@ fn request(line: Line, write: bool) -> Msg
 
 impl TileNode {
     /// The step: the first rule that applies.
+    #[inline(always)]
     pub(crate) fn take_step(
         &mut self,
         alloc: Global,
@@ -77,6 +78,7 @@ impl TileNode {
     }
 
     /// What a step does besides the policies.
+    #[inline(always)]
     fn work(
         &mut self,
         alloc: Global,
@@ -203,6 +205,7 @@ impl TileNode {
     }
 
     /// The next instruction, by its plan.
+    #[inline(always)]
     fn execute(&mut self, world: &World, out: &mut Out) -> Result<Option<Action>, NoMemory>
         requires { IsOf world.now self.old }
         ensures { Makes result self.old self.new out.old.items out.new.items (follows world.now self.old (plan_of world.now self.old.core)) }
@@ -228,6 +231,7 @@ impl TileNode {
     }
 
     /// An instruction that needs nothing but the core.
+    #[inline(always)]
     fn do_locally(&mut self, rd: u8, value: u64, pc: u64, cost: u64) -> Action
         requires { rd < 32 }
         ensures tile { self.new ≡ (does_locally self.old rd value pc cost).tile }
@@ -298,6 +302,7 @@ impl TileNode {
     }
 
     /// A data access: done at once where the cache has its line as the access needs it.
+    #[inline(always)]
     fn access(
         &mut self,
         world: &World,
@@ -322,6 +327,7 @@ impl TileNode {
     }
 
     /// An access whose bytes hold the number `old` is done on its line, which is there as the access needs it.
+    #[inline(always)]
     fn hit(&mut self, config: &Config, access: &Access, old: u64)
         requires checked { IsChecked config.now }
         requires number { old < 2 ^ (8 * access.now.size) }

@@ -92,6 +92,7 @@ impl TileNode {
     }
 
     /// Whether it can step: its thread runs, or reads the bytes of a write.
+    #[inline(always)]
     pub fn can_step(&self) -> bool
         ensures { result ≡ can_step self.now }
     {
@@ -102,6 +103,7 @@ impl TileNode {
     /// appends what the tile sends, and gives the action of the flat machine that commits, if one does. The tile can
     /// step.
     #[tactic(auto, using(crate::proofs::Fits::step_fits, crate::proofs::Fits::kept_fits, crate::proofs::OneLinePlain::step_keeps_number))]
+    #[inline(always)]
     pub fn step(
         &mut self,
         alloc: Global,

@@ -33,11 +33,11 @@ returns-else-tile-self-clause-on c =
     let place : c.remainder-place.result ≡ (c.args.address - c.self.inside.layout.stack_base) % (c.self.inside.config.stack_bytes + 4096) =
     c.remainder-place.ensures ∙ ap (λ n. (c.args.address - c.self.inside.layout.stack_base) % n) c.self.invariant.1 in
     elim c.else-tile-self.branch [
-  | else-tile-self-via-then-tile-self+else-place-stack w ↦
-      let on_some : nat_lt ((c.args.address - c.self.inside.layout.stack_base) / (c.self.inside.config.stack_bytes + 4096)) c.self.inside.config.tiles ≡ true = grind (arith, nat_tests) in
-      let past : nat_lt ((c.args.address - c.self.inside.layout.stack_base) % (c.self.inside.config.stack_bytes + 4096)) c.self.inside.config.stack_bytes ≡ false = grind (arith, nat_tests) in
-      rw (← c.self.view_is) (rw (on_some, past) at (on_stack _ _ c.args.address c.self.invariant.0 c.if-address-base.false))
-  | else-tile-self-via-else-tile-self w ↦
-      let none : nat_lt ((c.args.address - c.self.inside.layout.stack_base) / (c.self.inside.config.stack_bytes + 4096)) c.self.inside.config.tiles ≡ false = grind (arith, nat_tests) in
-      rw (← c.self.view_is) (rw none at (on_stack _ _ c.args.address c.self.invariant.0 c.if-address-base.false))
-]
+      | else-tile-self-via-then-tile-self+else-place-stack w ↦
+          let on_some : nat_lt ((c.args.address - c.self.inside.layout.stack_base) / (c.self.inside.config.stack_bytes + 4096)) c.self.inside.config.tiles ≡ true = grind (arith, nat_tests) in
+          let past : nat_lt ((c.args.address - c.self.inside.layout.stack_base) % (c.self.inside.config.stack_bytes + 4096)) c.self.inside.config.stack_bytes ≡ false = grind (arith, nat_tests) in
+          rw (← c.self.view_is) (rw (on_some, past) at (on_stack _ _ c.args.address c.self.invariant.0 c.if-address-base.false))
+      | else-tile-self-via-else-tile-self w ↦
+          let none : nat_lt ((c.args.address - c.self.inside.layout.stack_base) / (c.self.inside.config.stack_bytes + 4096)) c.self.inside.config.tiles ≡ false = grind (arith, nat_tests) in
+          rw (← c.self.view_is) (rw none at (on_stack _ _ c.args.address c.self.invariant.0 c.if-address-base.false))
+    ]

@@ -12,10 +12,11 @@ downgrade-requires c =
 
 pub invariant_of-self : goal.invariant_of-self
 invariant_of-self c =
-    let at = set_at c.self.invariant.0 c.self.view_is c.number-number.ensures.number c.number-number.ensures.within c.index_mut.ensures.value in
-    (kept-set at c.downgrade.new.self (omega (arith, memory_here at))
-    (rw c.downgrade.ensures.ways (IsSet-changed _ _ c.args.line way_downgraded _ (λ way. refl) (IsSet-here at))),
-    c.self.invariant.1 ∙ sym (length-set _ _ _))
+    let at = set_at c.self.invariant.0 c.self.view_is c.number-number.ensures.number c.number-number.ensures.within c.index_mut.ensures.value in (
+      kept-set at c.downgrade.new.self (omega (arith, memory_here at))
+          (rw c.downgrade.ensures.ways (IsSet-changed _ _ c.args.line way_downgraded _ (λ way. refl) (IsSet-here at))),
+      c.self.invariant.1 ∙ sym (length-set _ _ _),
+    )
 
 pub returns : goal.returns
 returns c =

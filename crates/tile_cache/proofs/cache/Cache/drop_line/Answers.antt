@@ -13,9 +13,10 @@ take-requires c =
 
 pub invariant_of-self : goal.invariant_of-self
 invariant_of-self c =
-    let at = set_at c.self.invariant.0 c.self.view_is c.number-number.ensures.number c.number-number.ensures.within c.index_mut.ensures.value in
-    (kept-set at c.take.new.self (omega (arith, memory_here at)) (rw c.take.ensures.ways (IsSet-others _ _ c.args.line _ (IsSet-here at))),
-    c.self.invariant.1 ∙ sym (length-set _ _ _))
+    let at = set_at c.self.invariant.0 c.self.view_is c.number-number.ensures.number c.number-number.ensures.within c.index_mut.ensures.value in (
+      kept-set at c.take.new.self (omega (arith, memory_here at)) (rw c.take.ensures.ways (IsSet-others _ _ c.args.line _ (IsSet-here at))),
+      c.self.invariant.1 ∙ sym (length-set _ _ _),
+    )
 
 pub returns-clause-cache : goal.returns-clause-cache
 returns-clause-cache c =

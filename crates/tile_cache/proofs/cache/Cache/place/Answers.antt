@@ -18,10 +18,11 @@ push_front-requires c =
 pub invariant_of-self : goal.invariant_of-self
 invariant_of-self c =
     let at = set_at c.self.invariant.0 c.self.view_is c.number-number.ensures.number c.number-number.ensures.within c.index_mut-set.ensures.value in
-    let memory = memory_here at in
-    (kept-set at c.push_front.new.self (omega (arith, c.take.ensures.memory, c.push_front.ensures.memory))
-    (rw (c.push_front.ensures.ways, c.take.ensures.ways) (IsSet-front _ c.args.line _ _ refl (room-here at c.requires) (IsSet-here at))),
-    c.self.invariant.1 ∙ sym (length-set _ _ _))
+    let memory = memory_here at in (
+      kept-set at c.push_front.new.self (omega (arith, c.take.ensures.memory, c.push_front.ensures.memory))
+          (rw (c.push_front.ensures.ways, c.take.ensures.ways) (IsSet-front _ c.args.line _ _ refl (room-here at c.requires) (IsSet-here at))),
+      c.self.invariant.1 ∙ sym (length-set _ _ _),
+    )
 
 pub returns-clause-cache : goal.returns-clause-cache
 returns-clause-cache c =

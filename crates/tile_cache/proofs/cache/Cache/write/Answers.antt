@@ -8,10 +8,11 @@ use Rattle.tile_cache.proofs.cache.Cache.write.Goals as goal
 
 pub invariant_of-self : goal.invariant_of-self
 invariant_of-self c =
-    let at = set_at c.self.invariant.0 c.self.view_is c.number-number.ensures.number c.number-number.ensures.within c.index_mut.ensures.value in
-    (kept-set at c.write.new.self (omega (arith, memory_here at))
-    (rw c.write.ensures.ways (IsSet-changed _ _ c.args.line (way_written c.args.offset c.args.size c.args.value) _ (λ way. refl) (IsSet-here at))),
-    c.self.invariant.1 ∙ sym (length-set _ _ _))
+    let at = set_at c.self.invariant.0 c.self.view_is c.number-number.ensures.number c.number-number.ensures.within c.index_mut.ensures.value in (
+      kept-set at c.write.new.self (omega (arith, memory_here at))
+          (rw c.write.ensures.ways (IsSet-changed _ _ c.args.line (way_written c.args.offset c.args.size c.args.value) _ (λ way. refl) (IsSet-here at))),
+      c.self.invariant.1 ∙ sym (length-set _ _ _),
+    )
 
 pub returns : goal.returns
 returns c =
