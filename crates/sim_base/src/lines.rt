@@ -40,10 +40,18 @@ impl LineData {
     {
         let mut number = [0; 8];
         LittleEndian::write_u64(&mut number, value);
-        self.set_all(offset as usize, &number[..size as usize]);
+        let offset = offset as usize;
+        match size {
+            1 => self.set_all(offset, &number[..1]),
+            2 => self.set_all(offset, &number[..2]),
+            4 => self.set_all(offset, &number[..4]),
+            8 => self.set_all(offset, &number),
+            _ => self.set_all(offset, &number[..size as usize]),
+        }
     }
 
     /// Writes bytes from an offset on.
+    #[inline(always)]
     fn set_all(&mut self, offset: usize, bytes: &[u8])
         requires { offset + length bytes.now ≤ 64 }
         ensures { self.new.bytes ≡ with_bytes slice_set self.old.bytes offset bytes.now }
@@ -55,14 +63,19 @@ impl LineData {
 }
 
 /// The number in the first `size` bytes, little-endian. `size` is at most 8.
+#[inline]
 fn number_in(bytes: &[u8], size: usize) -> u64
     requires sized { size ≤ 8 }
     requires fits { size ≤ length bytes.now }
     ensures value { result ≡ little_number size bytes.now }
     ensures small { result < 2 ^ (8 * size) }
 {
-    if size == 0 {
-        return 0;
+    match size {
+        0 => 0,
+        1 => u64::from(bytes[0]),
+        2 => u64::from(LittleEndian::read_u16(bytes)),
+        4 => u64::from(LittleEndian::read_u32(bytes)),
+        8 => LittleEndian::read_u64(bytes),
+        _ => LittleEndian::read_uint(bytes, size),
     }
-    LittleEndian::read_uint(bytes, size)
 }

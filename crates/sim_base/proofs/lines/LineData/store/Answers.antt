@@ -4,8 +4,8 @@ use Rattle.byteorder.proofs.Bytes.{take-bytes_low_first}
 use Rattle.sim_base.specs.LittleEndian.{with_bytes}
 use Rattle.sim_base.proofs.lines.LineData.store.Goals as goal
 
-pub returns : goal.returns
-returns c =
-    c.set_all.ensures
+pub returns-in_default : goal.returns-in_default
+returns-in_default c =
+    c.set_all-in_default.ensures
     ∙ ap (with_bytes slice_set c.args.self.now.bytes c.args.offset)
     (ap (take c.args.size) c.write_u64.ensures ∙ take-bytes_low_first 0 8 c.args.size c.args.value c.requires.sized)
