@@ -1,5 +1,5 @@
 -- How large the numbers of a mesh of checked settings are.
-use Rattle.std.proofs.Common.{◌≡◌, ℕ, zero, suc, ◌+◌, ◌-◌, ◌*◌, ◌<◌, ◌≤◌, Bool, true, false, Some, nat_le, find, cond, ◌⊎◌, inl, inr, sym, refl, subst, arith}
+use Rattle.std.proofs.Common.{◌≡◌, ℕ, zero, suc, ◌+◌, ◌-◌, ◌*◌, ◌/◌, ◌<◌, ◌≤◌, Bool, true, false, Some, nat_le, find, cond, ◌⊎◌, inl, inr, sym, refl, subst, arith}
 use Rattle.std.specs.Option.{unwrap_or}
 use Rattle.std.specs.List.{range_with_len}
 use Rattle.std.proofs.lemmas.Bool.Decides.{nat_tests}
@@ -115,3 +115,7 @@ pub travel_bound : (c : Config) (hops : ℕ) → IsChecked c → hops ≤ 56 →
 travel_bound c hops h l = mul-le hops c.hop_cost 56 1000000 l (in_range c h).hop_cost
 
 pub ruleset bounds = (side_bound, alu_bound, mul_bound, div_bound, mem_bound, amo_bound, directory_bound, memory_bound, travel_bound)
+
+-- a place of a square mesh lies in one of its rows
+pub row_below : (place side : ℕ) → 1 ≤ side → place < side * side → place / side < side
+row_below place side some inside = div_below place side side some inside

@@ -1,4 +1,4 @@
-ghost use Rattle.std.specs.Prelude.{◌≡◌, ◌*◌, ◌<◌, ◌≤◌};
+ghost use Rattle.std.specs.Prelude.{◌≡◌, ◌*◌, ◌/◌, ◌%◌, ◌<◌, ◌≤◌};
 ghost use Rattle.sim_base.specs.Numbering.{node_count};
 ghost use Rattle.sim_base.specs.Settings.{IsChecked};
 ghost use Rattle.mesh_model.specs.Mesh.{side, hops_between, diameter};
@@ -17,7 +17,29 @@ pub fn hops(config: &Config, a: NodeId, b: NodeId) -> u64
     let side = side(config);
     let from = config.place_of(a) as u64;
     let to = config.place_of(b) as u64;
-    (from % side).abs_diff(to % side) + (from / side).abs_diff(to / side)
+    let (row, column) = row_and_column(from, side);
+    let (other_row, other_column) = row_and_column(to, side);
+    column.abs_diff(other_column) + row.abs_diff(other_row)
+}
+
+/// The row and the column of a place in a mesh of this side.
+#[inline]
+#[tactic(auto, using(crate::proofs::Bounds::row_below))]
+fn row_and_column(place: u64, side: u64) -> (u64, u64)
+    requires some { 1 ≤ side }
+    requires inside { place < side * side }
+    ensures row { result.0 ≡ place / side }
+    ensures column { result.1 ≡ place % side }
+    ensures low_row { result.0 < side }
+    ensures low_column { result.1 < side }
+{
+    match side {
+        1 => (place, 0),
+        2 => (place / 2, place % 2),
+        4 => (place / 4, place % 4),
+        8 => (place / 8, place % 8),
+        _ => (place / side, place % side),
+    }
 }
 
 /// The hops from corner to corner, than which no two nodes are farther apart: at most 14. The settings pass

@@ -57,7 +57,17 @@ impl Config {
         ensures home { result ≡ home_of self.now line }
         ensures in_range { result < self.now.tiles }
     {
-        (line % self.tiles as u64) as NodeId
+        let tile = match self.tiles {
+            1 => 0,
+            2 => line % 2,
+            4 => line % 4,
+            8 => line % 8,
+            16 => line % 16,
+            32 => line % 32,
+            64 => line % 64,
+            tiles => line % u64::from(tiles),
+        };
+        tile as NodeId
     }
 
     /// The tile at whose place a node stands: a tile at its own, the control server at tile 0's, and the
