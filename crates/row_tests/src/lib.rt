@@ -6,6 +6,8 @@ mod caches;
 #[cfg(test)]
 mod clocks;
 #[cfg(test)]
+mod draws;
+#[cfg(test)]
 mod effects;
 #[cfg(test)]
 mod encodings;
@@ -23,6 +25,10 @@ mod machines;
 mod meshes;
 #[cfg(test)]
 mod messages;
+#[cfg(test)]
+mod plain_caches;
+#[cfg(test)]
+mod plain_sets;
 #[cfg(test)]
 mod settings;
 #[cfg(test)]
