@@ -49,18 +49,18 @@ pub enum AccessOp {
 /// address isn't traps and makes none.
 #[derive(Clone, Copy, Debug, PartialEq, Eq)]
 pub struct Access {
+    /// The address of its first byte.
+    pub addr: u64,
+    /// What is stored, or an atomic's own number, in its low `size` bytes; 0 for a load.
+    pub value: u64,
     /// Whether it reads, writes or both.
     pub op: AccessOp,
     /// The register that gets what the access gives, below 32; 0 for a store.
     pub rd: u8,
-    /// The address of its first byte.
-    pub addr: u64,
     /// How many bytes it has: 1, 2, 4 or 8, and for an atomic 4 or 8.
     pub size: u8,
     /// Whether what is read is a signed number.
     pub signed: bool,
-    /// What is stored, or an atomic's own number, in its low `size` bytes; 0 for a load.
-    pub value: u64,
 }
 
 impl Model for Access {
@@ -77,6 +77,7 @@ impl Model for Access {
 
 impl Access {
     /// Whether it reads, writes or both.
+    #[inline(always)]
     pub fn op(&self) -> AccessOp
         ensures value { result ≡ self.now.op }
         ensures known { IsAccess self.now }
@@ -85,6 +86,7 @@ impl Access {
     }
 
     /// The register that gets what the access gives, below 32; 0 for a store.
+    #[inline(always)]
     pub fn rd(&self) -> u8
         ensures value { result ≡ self.now.rd }
         ensures known { IsAccess self.now }
@@ -93,6 +95,7 @@ impl Access {
     }
 
     /// The address of its first byte, a multiple of its size.
+    #[inline(always)]
     pub fn addr(&self) -> u64
         ensures value { result ≡ self.now.addr }
         ensures known { IsAccess self.now }
@@ -101,6 +104,7 @@ impl Access {
     }
 
     /// How many bytes it has: 1, 2, 4 or 8, and for an atomic 4 or 8.
+    #[inline(always)]
     pub fn size(&self) -> u8
         ensures value { result ≡ self.now.size }
         ensures known { IsAccess self.now }

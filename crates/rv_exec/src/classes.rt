@@ -1,4 +1,5 @@
-ghost use Rattle.std.specs.Prelude.{◌≡◌};
+ghost use Rattle.std.specs.Prelude.{◌≡◌, ◌↔◌, IsTrue};
+ghost use Rattle.sim_base.specs.declared.kinds.CostClass.TheVariants.{Mul, Div};
 ghost use Rattle.rv_exec.specs.Class.{class_of, register_class};
 
 use rv_decode::{Instr, Op};
@@ -22,13 +23,34 @@ pub fn class(instr: &Instr) -> CostClass
 }
 
 /// The class of an instruction on two registers.
+#[inline(always)]
 fn class_of_registers(op: Op) -> CostClass
     ensures { result ≡ register_class op }
 {
-    match op {
-        Op::Mul | Op::Mulh | Op::Mulhsu | Op::Mulhu | Op::Mulw => CostClass::Mul,
-        Op::Div | Op::Divu | Op::Rem | Op::Remu => CostClass::Div,
-        Op::Divw | Op::Divuw | Op::Remw | Op::Remuw => CostClass::Div,
-        _ => CostClass::Alu,
+    if is_product(op) {
+        CostClass::Mul
+    } else if is_division(op) {
+        CostClass::Div
+    } else {
+        CostClass::Alu
     }
+}
+
+/// Whether an instruction on two registers multiplies.
+#[inline(always)]
+fn is_product(op: Op) -> bool
+    ensures { IsTrue result ↔ (register_class op ≡ Mul) }
+{
+    matches!(op, Op::Mul | Op::Mulh | Op::Mulhsu | Op::Mulhu | Op::Mulw)
+}
+
+/// Whether an instruction on two registers divides.
+#[inline(always)]
+fn is_division(op: Op) -> bool
+    ensures { IsTrue result ↔ (register_class op ≡ Div) }
+{
+    matches!(
+        op,
+        Op::Div | Op::Divu | Op::Rem | Op::Remu | Op::Divw | Op::Divuw | Op::Remw | Op::Remuw
+    )
 }

@@ -206,13 +206,7 @@ fn is_multiple(addr: u64, size: u8) -> bool
     requires { IsTrue (is_size size) }
     ensures { result ≡ addr % size == 0 }
 {
-    match size {
-        1 => true,
-        2 => addr % 2 == 0,
-        4 => addr % 4 == 0,
-        8 => addr % 8 == 0,
-        _ => unreachable!(),
-    }
+    addr & (u64::from(size) - 1) == 0
 }
 
 /// An address with its bit 0 cleared.

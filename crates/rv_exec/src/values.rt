@@ -11,6 +11,7 @@ use crate::products::value_of_product;
 use rv_decode::Op;
 
 /// What LUI and AUIPC write.
+#[inline(always)]
 pub(crate) fn value_of_upper(op: Op, imm: u64, pc: u64) -> u64
     requires { IsTrue (is_upper op) }
     ensures { result ≡ upper_value op imm pc }
@@ -23,6 +24,7 @@ pub(crate) fn value_of_upper(op: Op, imm: u64, pc: u64) -> u64
 }
 
 /// Whether a branch on `a` and `b` is taken.
+#[inline(always)]
 pub(crate) fn takes(op: Op, a: u64, b: u64) -> bool
     requires { IsTrue (is_branch op) }
     ensures { result ≡ is_taken op a b }
@@ -39,6 +41,7 @@ pub(crate) fn takes(op: Op, a: u64, b: u64) -> bool
 }
 
 /// What arithmetic on `a` and an immediate writes.
+#[inline(always)]
 pub(crate) fn value_of_immediate(op: Op, a: u64, imm: u64) -> u64
     requires { IsTrue (is_immediate op) }
     ensures { result ≡ immediate_value op a imm }
@@ -56,6 +59,7 @@ pub(crate) fn value_of_immediate(op: Op, a: u64, imm: u64) -> u64
 }
 
 /// What a shift of `a` by a constant writes.
+#[inline(always)]
 pub(crate) fn value_of_shift(op: Op, a: u64, amount: u8) -> u64
     requires { IsAmount op amount }
     ensures { result ≡ shift_value op a amount }
@@ -73,6 +77,7 @@ pub(crate) fn value_of_shift(op: Op, a: u64, amount: u8) -> u64
 
 /// What arithmetic on two registers' numbers writes. A shift's amount is the low 6 bits of `b`, or
 /// 5 in a W form.
+#[inline(always)]
 pub(crate) fn value_of_registers(op: Op, a: u64, b: u64) -> u64
     requires { IsTrue (is_register op) }
     ensures { result ≡ register_value op a b }
@@ -103,6 +108,7 @@ pub(crate) fn value_of_registers(op: Op, a: u64, b: u64) -> u64
 }
 
 /// How many bytes a load reads.
+#[inline(always)]
 pub(crate) fn bytes_of_load(op: Op) -> u8
     requires { IsTrue (is_load op) }
     ensures value { result ≡ size_of op }
@@ -118,6 +124,7 @@ pub(crate) fn bytes_of_load(op: Op) -> u8
 }
 
 /// How many bytes a store writes.
+#[inline(always)]
 pub(crate) fn bytes_of_store(op: Op) -> u8
     requires { IsTrue (is_store op) }
     ensures value { result ≡ size_of op }
@@ -133,6 +140,7 @@ pub(crate) fn bytes_of_store(op: Op) -> u8
 }
 
 /// Whether a load reads a signed number.
+#[inline(always)]
 pub(crate) fn has_sign(op: Op) -> bool
     requires { IsTrue (is_load op) }
     ensures { result ≡ is_signed op }
@@ -145,6 +153,7 @@ pub(crate) fn has_sign(op: Op) -> bool
 }
 
 /// Whether `a` is less than `b` in two's complement.
+#[inline(always)]
 fn is_signed_less(a: u64, b: u64) -> bool
     ensures { result ≡ signed_lt a b }
 {
@@ -152,6 +161,7 @@ fn is_signed_less(a: u64, b: u64) -> bool
 }
 
 /// A shift to the right that copies the sign.
+#[inline(always)]
 fn signed_shift(a: u64, amount: u8) -> u64
     requires { amount < 64 }
     ensures { result ≡ arithmetic_shift a amount }
@@ -160,6 +170,7 @@ fn signed_shift(a: u64, amount: u8) -> u64
 }
 
 /// A shift of the low word to the right that copies the word's sign.
+#[inline(always)]
 fn signed_word_shift(a: u64, amount: u8) -> u64
     requires { amount < 32 }
     ensures { result ≡ word_arithmetic_shift a amount }
@@ -168,6 +179,7 @@ fn signed_word_shift(a: u64, amount: u8) -> u64
 }
 
 /// The low word of a register's number.
+#[inline(always)]
 pub(crate) fn word(n: u64) -> u32
     ensures { result ≡ low_word n }
 {
@@ -175,6 +187,7 @@ pub(crate) fn word(n: u64) -> u32
 }
 
 /// A word as 64 bits with the same signed value.
+#[inline(always)]
 pub(crate) fn sign_extended(n: u32) -> u64
     ensures { result ≡ extended 32 n }
 {

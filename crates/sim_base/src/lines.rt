@@ -23,6 +23,7 @@ impl LineData {
     }
 
     /// The number in the `size` bytes from `offset` on, little-endian as in RISC-V. `size` is at most 8.
+    #[inline(always)]
     pub fn load(&self, offset: u8, size: u8) -> u64
         requires sized { size ≤ 8 }
         requires fits { offset + size ≤ 64 }
@@ -33,6 +34,7 @@ impl LineData {
     }
 
     /// Writes a number's low `size` bytes from `offset` on, little-endian as in RISC-V. `size` is at most 8.
+    #[inline(always)]
     pub fn store(&mut self, offset: u8, size: u8, value: u64)
         requires sized { size ≤ 8 }
         requires fits { offset + size ≤ 64 }
@@ -63,7 +65,7 @@ impl LineData {
 }
 
 /// The number in the first `size` bytes, little-endian. `size` is at most 8.
-#[inline]
+#[inline(always)]
 fn number_in(bytes: &[u8], size: usize) -> u64
     requires sized { size ≤ 8 }
     requires fits { size ≤ length bytes.now }
