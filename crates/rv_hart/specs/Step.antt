@@ -1,7 +1,7 @@
 -- What a hart does next: its next instruction, up to the memory that it works on. From the RISC-V ISA manual, RV64IMA;
 -- who may access what, and what calls do, is this simulator's own. The flat machine and the tiles both take their
 -- steps from here.
-use Rattle.std.specs.Prelude.{ℕ, ◌<◌, ◌≤◌, ◌≡◌, Bool, true, not, List, Option, Some, None, if◌then◌else◌}
+use Rattle.std.specs.Prelude.{ℕ, ◌<◌, ◌≤◌, ◌≡◌, ◌&&◌, Bool, true, not, List, Option, Some, None, if◌then◌else◌}
 use Rattle.sim_base.specs.declared.kinds.CostClass.{CostClass}
 use Rattle.sim_base.specs.declared.ends.Cause.{Cause}
 use Rattle.sim_base.specs.declared.ends.Cause.TheVariants.{InstrAccess, Illegal, LoadAccess, StoreAccess}
@@ -39,6 +39,10 @@ access_fault _ = StoreAccess
 -- whether each byte of an access has the right that it needs
 abbrev pub is_granted : Setup → Asked → Bool
 is_granted w access = may w access.addr access.size (right_of access.op)
+
+-- whether an access is made as it is asked for: its bytes have the right, and a store-conditional has its reservation
+abbrev pub is_allowed : Setup → Option Span → Asked → Bool
+is_allowed w reservation access = is_granted w access && not (lacks_reservation reservation access)
 
 -- an access: its bytes' rights are tested first, then a store-conditional's reservation
 abbrev pub access_step : Setup → Option Span → Asked → Step

@@ -10,4 +10,4 @@ mod steps;
 
 pub use reservations::{Span, matches, reserved, span_of};
 pub use start::start_registers;
-pub use steps::{Step, next_step};
+pub use steps::{Step, is_allowed, next_step};

@@ -35,6 +35,7 @@ pub fn matches(reservation: Option<Span>, access: &Access) -> bool
 
 /// A hart's reservation after an access of its own, by the RISC-V ISA manual, extension A: a load-reserved makes one of
 /// its bytes, and a store-conditional ends the one that stands.
+#[inline(always)]
 pub fn reserved(access: &Access, old: Option<Span>) -> Option<Span>
     ensures { result ≡ reserved access.now old }
 {
@@ -46,6 +47,7 @@ pub fn reserved(access: &Access, old: Option<Span>) -> Option<Span>
 }
 
 /// Whether an access is a store-conditional.
+#[inline(always)]
 pub(crate) fn is_conditional(op: AccessOp) -> bool
     ensures { result ≡ is_conditional op }
 {

@@ -1,6 +1,6 @@
 ghost use Rattle.std.specs.Prelude.{◌≡◌};
 ghost use Rattle.rv_decode.specs.Valid.{IsValid};
-ghost use Rattle.rv_hart.specs.Step.{next_step, instruction_step, access_step, right_of, access_fault, is_granted, IsStep};
+ghost use Rattle.rv_hart.specs.Step.{next_step, instruction_step, access_step, is_allowed, right_of, access_fault, is_granted, IsStep};
 
 use crate::calls::call_step;
 use crate::reservations::{Span, is_conditional, matches};
@@ -125,6 +125,17 @@ fn access_step(world: &World, reservation: Option<Span>, access: Access) -> Step
     } else {
         Step::Access { access }
     }
+}
+
+/// Whether an access is made as it is asked for: each of its bytes has the right that it needs, and a store-conditional has
+/// its reservation. Else it traps, or fails.
+#[inline(always)]
+pub fn is_allowed(world: &World, reservation: Option<Span>, access: &Access) -> bool
+    ensures { result ≡ is_allowed world.now reservation access.now }
+{
+    let op = access.op();
+    world.may(access.addr(), u64::from(access.size()), right_of(op))
+        && (!is_conditional(op) || matches(reservation, access))
 }
 
 /// The right that an access needs of its bytes.
