@@ -101,6 +101,33 @@ fn write(cache: &mut Cache, plain: &mut Plain, line: Line, byte: u8) {
     }
 }
 
+/// Reads a byte of a line of both, which comes to the front, and says whether both give the same.
+fn read(cache: &mut Cache, plain: &mut Plain, line: Line, offset: u8) -> Result<bool, NoMemory>
+    requires { offset < 64 }
+{
+    let number = cache.read(line, offset, 1);
+    let Some(way) = plain.take(line) else {
+        return Ok(number.is_none());
+    };
+    let is_same = number == Some(way.content.bytes[offset as usize] as u64);
+    plain.put(way)?;
+    Ok(is_same)
+}
+
+/// Writes a byte into a line of both that is held in M, and comes to the front, and says whether both do.
+fn overwrite(cache: &mut Cache, plain: &mut Plain, line: Line, byte: u8) -> Result<bool, NoMemory> {
+    let is_held = matches!(plain.find(line), Some((Hold::M, _)));
+    let offset = byte % 64;
+    let is_written = cache.overwrite(line, offset, 1, byte as u64);
+    if is_held {
+        plain.write(line, offset, byte);
+        if let Some(way) = plain.take(line) {
+            plain.put(way)?;
+        }
+    }
+    Ok(is_written == is_held)
+}
+
 /// Takes a line out of both, and says whether both give the same.
 fn drop_line(cache: &mut Cache, plain: &mut Plain, line: Line) -> bool {
     match (cache.drop_line(line), plain.take(line)) {
@@ -123,7 +150,7 @@ fn place(cache: &mut Cache, plain: &mut Plain, way: Way) -> Result<bool, NoMemor
     Ok(is_same)
 }
 
-/// Makes one of five calls of both, and says whether both answer the same.
+/// Makes one of seven calls of both, and says whether both answer the same.
 fn change(
     cache: &mut Cache,
     plain: &mut Plain,
@@ -149,7 +176,9 @@ fn change(
             cache.downgrade(line);
             plain.downgrade(line);
         }
-        _ => write(cache, plain, line, byte),
+        7 => write(cache, plain, line, byte),
+        8 => return read(cache, plain, line, byte % 64),
+        _ => return overwrite(cache, plain, line, byte),
     }
     Ok(true)
 }
@@ -174,7 +203,7 @@ fn stay_same(alloc: Global, calls: u64) -> Result<bool, NoMemory> {
     let mut state = 1;
     let mut is_same = true;
     for _ in 0..calls {
-        let call = draw(&mut state, 8);
+        let call = draw(&mut state, 10);
         let line = draw(&mut state, 20);
         let byte = draw(&mut state, 256) as u8;
         let answers = change(&mut cache, &mut plain, call, line, byte)?;

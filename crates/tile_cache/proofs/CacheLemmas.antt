@@ -1,14 +1,14 @@
 -- What is known of each set of a cache, and that each change keeps it.
-use Rattle.std.proofs.Common.{◌≡◌, ℕ, ◌%◌, ◌<◌, ◌≤◌, false, List, ◌∷◌, [], length, get_or, set, Some, None, refl, ap, ◌∙◌, inl, inr, arith}
+use Rattle.std.proofs.Common.{◌≡◌, ℕ, ◌%◌, ◌<◌, ◌≤◌, false, List, ◌∷◌, [], length, get_or, set, Some, None, refl, sym, ap, ◌∙◌, inl, inr, arith}
 use Rattle.std.proofs.Math.Nat.{mod-lt}
 use Rattle.std.proofs.lemmas.Bool.{cases_Bool, cases_eq, ltb-true}
-use Rattle.std.proofs.lemmas.List.{length-set, length-map, get_or-set_same, get_or-set_other, set-get_or}
+use Rattle.std.proofs.lemmas.List.{length-set, length-map, get_or-set_same, get_or-set_other, set-get_or, set-set}
 use Rattle.std.proofs.lemmas.List.Elements.{All-weaker, All-filter, All-cons, All-map}
 use Rattle.std.specs.Prelude.{All, not, Option, is_some, if◌then◌else◌, find, nat_lt}
 use Rattle.std.specs.Option.{option_map}
 use Rattle.tile_cache.specs.declared.ways.Hold.{Hold}
 use Rattle.tile_cache.specs.declared.ways.Way.{Way}
-use Rattle.tile_cache.specs.Cache.{Sets, IsCache, set_number, set_of, way_of, with_set, has_line, has_repeat, others, touched_ways, touched, with_line_changed, last_way, line_and_hold, victim_of}
+use Rattle.tile_cache.specs.Cache.{Sets, IsCache, set_number, set_of, way_of, hold_of, is_m, with_set, has_line, has_repeat, hold_among, others, touched_ways, touched, with_line_changed, with_change, way_written, written, last_way, line_and_hold, victim_of}
 use Rattle.tile_cache.proofs.SetLemmas.{KeepsLine, changed_line, changed-once, found_line, front-once, length-others, last-nothing, length-others_found, others-once}
 
 -- ways that may be the set of a number
@@ -90,6 +90,33 @@ touched_from c line (Some way) e = rw (e, found_line line (set_of c line) way e)
 
 pub touched-set : (c : Sets) (line : ℕ) → touched c line ≡ with_set c line (touched_ways line (set_of c line))
 touched-set c line = touched_from c line _ refl
+
+-- a line that is touched and written, where it may be written, seen in its set
+
+abbrev pub overwritten_ways : ℕ → ℕ → ℕ → ℕ → List Way → List Way
+overwritten_ways line offset size value ways =
+    if is_m (hold_among line ways) then with_line_changed line (way_written offset size value) (touched_ways line ways) else ways
+
+pub IsSet-overwritten : (c : Sets) (line offset size value : ℕ) (ways : List Way) → IsSet c (set_number c line) ways → IsSet c (set_number c line) (overwritten_ways line offset size value ways)
+IsSet-overwritten c line offset size value ways h =
+    elim (cases_Bool (is_m (hold_among line ways))) [
+      | inl may ↦ rw may (IsSet-changed c (set_number c line) line (way_written offset size value) (touched_ways line ways) (λ way. refl) (IsSet-touched c line ways h))
+      | inr not ↦ rw not h
+    ]
+
+with_change-with_set : (c : Sets) (line : ℕ) (change : Way → Way) (ways : List Way) → 0 < length c.sets → with_change (with_set c line ways) line change ≡ with_set c line (with_line_changed line change ways)
+with_change-with_set c line change ways h =
+    rw (length-set c.sets (set_number c line) ways, get_or-set_same c.sets (set_number c line) ways [] (set_number-within c line h), set-set c.sets (set_number c line) ways (with_line_changed line change ways)) refl
+
+pub overwritten-set : (c : Sets) (line offset size value : ℕ) → 0 < length c.sets
+    → with_set c line (overwritten_ways line offset size value (set_of c line)) ≡ (if is_m (hold_of c line) then written (touched c line) line offset size value else c)
+overwritten-set c line offset size value h =
+    elim (cases_Bool (is_m (hold_of c line))) [
+      | inl may ↦
+          rw may
+          (sym (ap (λ (d : Sets). written d line offset size value) (touched-set c line) ∙ with_change-with_set c line (way_written offset size value) (touched_ways line (set_of c line)) h))
+      | inr not ↦ rw (not, set-get_or c.sets (set_number c line) []) refl
+    ]
 
 -- a set that has no victim for a line has room for it, once what it has of the line is gone
 

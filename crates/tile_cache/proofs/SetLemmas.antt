@@ -4,11 +4,11 @@ use Rattle.std.proofs.lemmas.Bool.{cases_Bool, or_parts, or_from, ltb-false, ltb
 use Rattle.std.proofs.lemmas.Bool.Decides.{nat_tests}
 use Rattle.std.proofs.lemmas.List.Elements.{All-head, All-tail}
 use Rattle.std.proofs.lemmas.Option.{cond_some, same_Some}
-use Rattle.std.specs.Prelude.{find, filter, position, not, ◌==◌, map, All, if◌then◌else◌}
+use Rattle.std.specs.Prelude.{Option, find, filter, position, not, ◌==◌, map, All, if◌then◌else◌}
 use Rattle.std.specs.List.{list_any, position_or_len, remove, slice_get}
 use Rattle.std.specs.Option.{option_map}
 use Rattle.tile_cache.specs.declared.ways.Way.{Way}
-use Rattle.tile_cache.specs.Cache.{has_line, others, touched_ways, with_line_changed, last_way, has_repeat}
+use Rattle.tile_cache.specs.Cache.{at_front, has_line, hold_among, others, touched_ways, with_line_changed, last_way, has_repeat}
 
 -- the first way with a line stands at a place
 abbrev IsPlace : ℕ → List Way → ℕ → Type 0
@@ -100,22 +100,21 @@ pub changed_at : (line : ℕ) (change : Way → Way) (ways : List Way) (i : ℕ)
 changed_at line change ways i way once at here =
     ap (λ w. set ways i (change w)) here ∙ sym (changed_place line change ways i way once (place line ways i (sym at)))
 
--- a line that comes to the front from its place, and one that is there already
+-- a line that comes to the front from its place
 
 pub touched-absent : (line : ℕ) (ways : List Way) → list_any (has_line line) ways ≡ false → touched_ways line ways ≡ ways
 touched-absent line ways h = rw (find-absent line ways h) refl
 
-pub touched_at : (line : ℕ) (ways : List Way) (i : ℕ) (way : Way) → has_repeat ways ≡ false → Some i ≡ position (has_line line) ways
-    → way ≡ get_or ways i way → way ∷ remove ways i ≡ touched_ways line ways
-touched_at line ways i way once at here = rw (← found_at line ways i way at here, removed_at line ways i once at) refl
+slice_place : (line : ℕ) (ways : List Way) (i : ℕ) → IsPlace line ways i → slice_get ways i ≡ find (has_line line) ways
+slice_place line [] i p = absurd p
+slice_place line (way ∷ ways) zero p = rw p refl
+slice_place line (way ∷ ways) (suc i) p = rw p.0 (slice_place line ways i p.1)
 
-touched_first : (line : ℕ) (ways : List Way) → has_repeat ways ≡ false → IsPlace line ways 0 → touched_ways line ways ≡ ways
-touched_first line [] once p = absurd p
-touched_first line (way ∷ ways) once p = rw (find_place line (way ∷ ways) 0 way p, others_place line (way ∷ ways) 0 once p) refl
+front_place : (line : ℕ) (ways : List Way) (i : ℕ) → has_repeat ways ≡ false → IsPlace line ways i → at_front i ways ≡ touched_ways line ways
+front_place line ways i once p = rw (slice_place line ways i p, others_place line ways i once p) refl
 
-pub touched_at_first : (line : ℕ) (ways : List Way) (i : ℕ) → i ≤ 0 → has_repeat ways ≡ false → Some i ≡ position (has_line line) ways → touched_ways line ways ≡ ways
-touched_at_first line ways i first once at =
-    let e : i ≡ 0 = omega arith in touched_first line ways once (place line ways 0 (sym at ∙ ap Some e))
+pub front_at : (line : ℕ) (ways : List Way) (i : ℕ) → has_repeat ways ≡ false → Some i ≡ position (has_line line) ways → at_front i ways ≡ touched_ways line ways
+front_at line ways i once at = front_place line ways i once (place line ways i (sym at))
 
 -- the last way
 
@@ -234,6 +233,44 @@ find-changed_other line k change keeps (way ∷ ways) ne =
           rw (here, keeps way, other, find-changed_other line k change keeps ways ne) refl
       | inr there ↦ rw (there, find-changed_other line k change keeps ways ne) refl
     ]
+
+-- a line that is changed at its place and then comes to the front, as if it had come there first
+
+changed-keeps_place : (line : ℕ) (change : Way → Way) → KeepsLine change → (ways : List Way) (i : ℕ) → IsPlace line ways i → IsPlace line (with_line_changed line change ways) i
+changed-keeps_place line change keeps [] i p = absurd p
+changed-keeps_place line change keeps (way ∷ ways) zero p = rw (p, keeps way) p
+changed-keeps_place line change keeps (way ∷ ways) (suc i) p = rw p.0 (p.0, changed-keeps_place line change keeps ways i p.1)
+
+others-changed : (line : ℕ) (change : Way → Way) → KeepsLine change → (ways : List Way) → others line (with_line_changed line change ways) ≡ others line ways
+others-changed line change keeps [] = refl
+others-changed line change keeps (way ∷ ways) =
+    elim (cases_Bool (has_line line way)) [
+      | inl here ↦ rw (here, keeps way, here) (others-changed line change keeps ways)
+      | inr other ↦ rw (other, other, others-changed line change keeps ways) refl
+    ]
+
+touched-changed_from : (line : ℕ) (change : Way → Way) → KeepsLine change → (ways : List Way) (o : Option Way) → find (has_line line) ways ≡ o
+    → touched_ways line (with_line_changed line change ways) ≡ with_line_changed line change (touched_ways line ways)
+touched-changed_from line change keeps ways None e = rw (find-changed line change keeps ways, e) refl
+touched-changed_from line change keeps ways (Some way) e =
+    let here : has_line line way ≡ true = eq-eqb way.line line (found_line line ways way e) in
+    let rest : with_line_changed line change (others line ways) ≡ others line ways = changed-absent line change (others line ways) (others-lacks line ways) in
+    rw (find-changed line change keeps ways, e, here, rest, others-changed line change keeps ways) refl
+
+touched-changed : (line : ℕ) (change : Way → Way) → KeepsLine change → (ways : List Way)
+    → touched_ways line (with_line_changed line change ways) ≡ with_line_changed line change (touched_ways line ways)
+touched-changed line change keeps ways = touched-changed_from line change keeps ways _ refl
+
+pub changed_front_at : (line : ℕ) (change : Way → Way) → KeepsLine change → (ways : List Way) (i : ℕ) (way : Way) → has_repeat ways ≡ false → Some i ≡ position (has_line line) ways
+    → way ≡ get_or ways i way → at_front i (set ways i (change way)) ≡ with_line_changed line change (touched_ways line ways)
+changed_front_at line change keeps ways i way once at here =
+    ap (at_front i) (changed_at line change ways i way once at here)
+    ∙ front_place line (with_line_changed line change ways) i (changed-once line change keeps ways once) (changed-keeps_place line change keeps ways i (place line ways i (sym at)))
+    ∙ touched-changed line change keeps ways
+
+-- how a line is held, seen at its place
+pub held_at : (line : ℕ) (ways : List Way) (i : ℕ) (way : Way) → Some i ≡ position (has_line line) ways → way ≡ get_or ways i way → hold_among line ways ≡ Some way.hold
+held_at line ways i way at here = ap (option_map (λ w. w.hold)) (sym (found_at line ways i way at here))
 
 -- the last way of a set that has some is in it, and stands once
 

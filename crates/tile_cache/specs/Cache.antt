@@ -1,12 +1,12 @@
 -- A private cache: set-associative, write-back, the least recently used line of a set goes first. A line of
 -- number n lies in set n modulo the number of sets. This simulator's own, after Graphite (HPCA 2010).
-use Rattle.std.specs.Prelude.{ℕ, ◌%◌, ◌<◌, ◌≤◌, ◌≡◌, ◌==◌, ◌||◌, not, Bool, false, nat_lt, List, [], ◌∷◌, length, map, filter, find, replicate, All, if◌then◌else◌, Option, Some, None, is_some, slice_index_or, slice_set}
-use Rattle.std.specs.List.{list_any}
+use Rattle.std.specs.Prelude.{ℕ, ◌%◌, ◌<◌, ◌≤◌, ◌≡◌, ◌==◌, ◌||◌, not, Bool, true, false, nat_lt, List, [], ◌∷◌, length, map, filter, find, replicate, All, if◌then◌else◌, Option, Some, None, is_some, slice_index, slice_index_or, slice_set}
+use Rattle.std.specs.List.{list_any, remove, slice_get}
 use Rattle.std.specs.Option.{option_map, option_map_or}
 use Rattle.sim_base.specs.declared.lines.LineData.{LineData}
-use Rattle.sim_base.specs.LittleEndian.{stored}
+use Rattle.sim_base.specs.LittleEndian.{loaded, stored}
 use Rattle.tile_cache.specs.declared.ways.Hold.{Hold}
-use Rattle.tile_cache.specs.declared.ways.Hold.TheVariants.{S}
+use Rattle.tile_cache.specs.declared.ways.Hold.TheVariants.{S, M}
 use Rattle.tile_cache.specs.declared.ways.Way.{Way}
 
 -- a cache: how many lines each set may have, and the sets, each with its most recent line first
@@ -35,9 +35,17 @@ way_of c line = find (has_line line) (set_of c line)
 abbrev pub others : ℕ → List Way → List Way
 others line ways = filter (λ way. not (has_line line way)) ways
 
+-- how ways hold this line, where one has it
+abbrev pub hold_among : ℕ → List Way → Option Hold
+hold_among line ways = option_map (λ way. way.hold) (find (has_line line) ways)
+
 -- ways with the one that has this line brought to their front
 abbrev pub touched_ways : ℕ → List Way → List Way
 touched_ways line ways = option_map_or (λ way. way ∷ others line ways) (find (has_line line) ways) ways
+
+-- ways with the one at a place brought to their front
+abbrev pub at_front : ℕ → List Way → List Way
+at_front place ways = option_map_or (λ way. way ∷ remove ways place) (slice_get ways place) ways
 
 -- ways with another in the place of the one that has this line
 abbrev pub with_line_changed : ℕ → (Way → Way) → List Way → List Way
@@ -69,6 +77,15 @@ hold_of c line = option_map (λ way. way.hold) (way_of c line)
 
 abbrev pub content_of : Sets → ℕ → Option LineData
 content_of c line = option_map (λ way. way.content) (way_of c line)
+
+-- the number in so many bytes at an offset of a line, where the cache has it
+abbrev pub number_of : Sets → ℕ → ℕ → ℕ → Option ℕ
+number_of c line offset size = option_map (λ way. loaded (slice_index way.content.bytes) offset size) (way_of c line)
+
+-- whether a hold lets its holder write
+abbrev pub is_m : Option Hold → Bool
+is_m (Some M) = true
+is_m _ = false
 
 -- a line comes to the front of its set as it is
 abbrev pub touched : Sets → ℕ → Sets

@@ -1,7 +1,7 @@
-ghost use Rattle.std.specs.Prelude.{◌≡◌, ◌≤◌, ◌<◌, ◌+◌, IsSome, IfOk, Some, None, length};
+ghost use Rattle.std.specs.Prelude.{◌≡◌, ◌≤◌, ◌<◌, ◌+◌, ◌*◌, ◌^◌, if◌then◌else◌, IsSome, IfOk, IfSome, Some, None, length};
 ghost use Rattle.std.specs.Option.{option_copied};
 ghost use Rattle.tile_cache.specs.Kept.{cache_of, IsKept};
-ghost use Rattle.tile_cache.specs.Cache.{IsCache, set_number, set_of, empty_cache, way_of, hold_of, content_of, touched, written, victim_of, LeavesRoom, placed, without_line, downgraded};
+ghost use Rattle.tile_cache.specs.Cache.{IsCache, set_number, set_of, empty_cache, way_of, hold_of, content_of, number_of, is_m, touched, written, victim_of, LeavesRoom, placed, without_line, downgraded};
 
 use crate::set::Set;
 use crate::ways::{Hold, Way};
@@ -96,6 +96,33 @@ impl Cache {
         self.sets[number].write(line, offset, size, value);
     }
 
+    /// The number in the `size` bytes from `offset` on of a line, little-endian as in RISC-V, and the line becomes the most
+    /// recent of its set. Where the line isn't there nothing changes. `size` is at most 8.
+    #[inline(always)]
+    pub fn read(&mut self, line: Line, offset: u8, size: u8) -> Option<u64>
+        requires sized { size ≤ 8 }
+        requires fits { offset + size ≤ 64 }
+        ensures number { result ≡ number_of self.old line offset size }
+        ensures small { IfSome result (λ number. number < 2 ^ (8 * size)) }
+        ensures cache { self.new ≡ touched self.old line }
+    {
+        let number = self.number(line);
+        self.sets[number].read(line, offset, size)
+    }
+
+    /// Where a line is held in M, writes a number's low `size` bytes from `offset` on of it, little-endian as in RISC-V, makes
+    /// it the most recent of its set, and gives true. Else nothing changes. `size` is at most 8.
+    #[inline(always)]
+    pub fn overwrite(&mut self, line: Line, offset: u8, size: u8, value: u64) -> bool
+        requires sized { size ≤ 8 }
+        requires fits { offset + size ≤ 64 }
+        ensures held { result ≡ is_m (hold_of self.old line) }
+        ensures cache { self.new ≡ (if is_m (hold_of self.old line) then written (touched self.old line) line offset size value else self.old) }
+    {
+        let number = self.number(line);
+        self.sets[number].overwrite(line, offset, size, value)
+    }
+
     /// The line that has to leave before another is placed, with its hold: the least recent of the set,
     /// where the set is full and doesn't have the line.
     pub fn victim(&self, line: Line) -> Option<(Line, Hold)>
@@ -145,7 +172,7 @@ impl Cache {
     }
 
     /// The number of a line's set.
-    #[inline]
+    #[inline(always)]
     fn number(&self, line: Line) -> usize
         ensures number { result ≡ set_number self.now line }
         ensures within { result < length self.now.sets }

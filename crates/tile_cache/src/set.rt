@@ -1,7 +1,8 @@
-ghost use Rattle.std.specs.Prelude.{◌≡◌, ◌≤◌, ◌<◌, ◌+◌, false, List, [], ◌∷◌, find, position, IfOk, vec_len};
-ghost use Rattle.std.specs.Option.{option_copied};
+ghost use Rattle.std.specs.Prelude.{◌≡◌, ◌≤◌, ◌<◌, ◌+◌, ◌*◌, ◌^◌, false, if◌then◌else◌, List, [], ◌∷◌, find, position, slice_index, IfOk, IfSome, vec_len};
+ghost use Rattle.std.specs.Option.{option_copied, option_map};
 ghost use Rattle.std.specs.Vec.{vec_capacity};
-ghost use Rattle.tile_cache.specs.Cache.{has_line, others, touched_ways, with_line_changed, way_written, way_downgraded, last_way, has_repeat};
+ghost use Rattle.sim_base.specs.LittleEndian.{loaded};
+ghost use Rattle.tile_cache.specs.Cache.{at_front, has_line, hold_among, is_m, others, touched_ways, with_line_changed, way_written, way_downgraded, last_way, has_repeat};
 
 use crate::ways::{Hold, Way};
 use sim_base::{Line, NoMemory};
@@ -46,7 +47,7 @@ impl Set {
     }
 
     /// The place of a line.
-    #[inline]
+    #[inline(always)]
     fn position(&self, line: Line) -> Option<usize>
         ensures { result ≡ position (has_line line) self.now.ways.items }
     {
@@ -60,13 +61,72 @@ impl Set {
         ensures ways { self.new.ways.items ≡ touched_ways line self.old.ways.items }
         ensures memory { vec_capacity self.old.ways ≤ vec_capacity self.new.ways }
     {
-        let Some(place) = self.position(line) else {
-            return;
-        };
-        if place > 0 {
-            let way = self.ways.remove(place);
-            self.push_front(way);
+        if let Some(place) = self.position(line) {
+            self.to_front(place);
         }
+    }
+
+    /// The number in the `size` bytes from `offset` on of a line that it has, which comes to the front.
+    #[inline(always)]
+    pub(crate) fn read(&mut self, line: Line, offset: u8, size: u8) -> Option<u64>
+        requires once { has_repeat self.old.ways.items ≡ false }
+        requires sized { size ≤ 8 }
+        requires fits { offset + size ≤ 64 }
+        ensures number { result ≡ option_map (λ way. loaded (slice_index way.content.bytes) offset size) (find (has_line line) self.old.ways.items) }
+        ensures small { IfSome result (λ number. number < 2 ^ (8 * size)) }
+        ensures ways { self.new.ways.items ≡ touched_ways line self.old.ways.items }
+        ensures memory { vec_capacity self.old.ways ≤ vec_capacity self.new.ways }
+    {
+        let place = self.position(line)?;
+        let number = self.ways[place].content.load(offset, size);
+        self.to_front(place);
+        Some(number)
+    }
+
+    /// Writes a number's low `size` bytes from `offset` on into a line that it has in M, which comes to the front, and
+    /// gives true. Else nothing changes.
+    #[inline(always)]
+    pub(crate) fn overwrite(&mut self, line: Line, offset: u8, size: u8, value: u64) -> bool
+        requires once { has_repeat self.old.ways.items ≡ false }
+        requires sized { size ≤ 8 }
+        requires fits { offset + size ≤ 64 }
+        ensures held { result ≡ is_m (hold_among line self.old.ways.items) }
+        ensures ways { self.new.ways.items ≡ (if is_m (hold_among line self.old.ways.items) then with_line_changed line (way_written offset size value) (touched_ways line self.old.ways.items) else self.old.ways.items) }
+        ensures memory { vec_capacity self.old.ways ≤ vec_capacity self.new.ways }
+    {
+        let Some(place) = self.position(line) else {
+            return false;
+        };
+        let hold = self.ways[place].hold;
+        if !hold.is_m() {
+            return false;
+        }
+        self.ways[place].content.store(offset, size, value);
+        self.to_front(place);
+        true
+    }
+
+    /// Brings the way at a place to the front, which is most often its place already.
+    #[inline(always)]
+    fn to_front(&mut self, place: usize)
+        requires { place < vec_len self.old.ways }
+        ensures ways { self.new.ways.items ≡ at_front place self.old.ways.items }
+        ensures memory { vec_capacity self.old.ways ≤ vec_capacity self.new.ways }
+    {
+        if place > 0 {
+            self.move_to_front(place);
+        }
+    }
+
+    /// Brings the way at a place to the front, wherever it is.
+    #[inline(never)]
+    fn move_to_front(&mut self, place: usize)
+        requires { place < vec_len self.old.ways }
+        ensures ways { self.new.ways.items ≡ at_front place self.old.ways.items }
+        ensures memory { vec_capacity self.old.ways ≤ vec_capacity self.new.ways }
+    {
+        let way = self.ways.remove(place);
+        self.push_front(way);
     }
 
     /// Puts a line at the front that it doesn't have.

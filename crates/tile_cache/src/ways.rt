@@ -1,3 +1,6 @@
+ghost use Rattle.std.specs.Prelude.{◌≡◌, Some};
+ghost use Rattle.tile_cache.specs.Cache.{is_m};
+
 use sim_base::{Line, LineData};
 
 /// How a line is held.
@@ -7,6 +10,16 @@ pub enum Hold {
     S,
     /// It may be read and written; nobody else has it.
     M,
+}
+
+impl Hold {
+    /// Whether it lets its holder write.
+    #[inline(always)]
+    pub(crate) fn is_m(self) -> bool
+        ensures { result ≡ is_m (Some self) }
+    {
+        matches!(self, Hold::M)
+    }
 }
 
 /// A line in a set.
