@@ -1,6 +1,8 @@
 mod Facts
 mod Fits
 mod Made
+mod Plans
+mod Hits
 pub mod OneLineCaches
 pub mod OneLineDeliver
 pub mod OneLineHappens

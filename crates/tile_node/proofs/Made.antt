@@ -12,22 +12,18 @@ use Rattle.sim_base.specs.Saturated.{saturated}
 use Rattle.elf_image.specs.Layout.{Setup}
 use Rattle.mesh_model.specs.Cost.{cost_of}
 use Rattle.rv_exec.specs.Access.{Asked, finish_of}
-use Rattle.rv_exec.specs.declared.access.Done.{Done}
-use Rattle.rv_exec.specs.Registers.{with_register}
-use Rattle.rv_hart.specs.declared.reservations.Span.{Span}
-use Rattle.rv_hart.specs.Reservation.{reserved}
 use Rattle.rv_hart.specs.Start.{next_pc, with_answer}
 use Rattle.wire_msg.specs.declared.messages.Msg.{Msg}
 use Rattle.wire_msg.specs.Message.{Up, asks}
 use Rattle.tile_core.specs.declared.cores.Status.{Status}
 use Rattle.tile_core.specs.declared.cores.Status.TheVariants.{Run, Miss, Called}
 use Rattle.tile_core.specs.Gathering.{Gathering}
-use Rattle.tile_core.specs.Core.{line_at, line_missed}
+use Rattle.tile_core.specs.Core.{line_missed}
 use Rattle.tile_cache.specs.declared.ways.Hold.{Hold}
 use Rattle.tile_cache.specs.declared.ways.Hold.TheVariants.{S, M}
-use Rattle.tile_cache.specs.Cache.{Sets, victim_of, placed, written}
+use Rattle.tile_cache.specs.Cache.{Sets, victim_of, placed}
 use Rattle.dir_slice.specs.Directory.{Slice, Mail, reaction, home_at, Answers as HomeAnswers}
-use Rattle.tile_node.specs.Tile.{Tile, up_message, told_message, with_status, one_more, access_class, place_in_line, with_written}
+use Rattle.tile_node.specs.Tile.{Tile, up_message, told_message, with_status, one_more, access_class, place_in_line}
 use Rattle.tile_node.specs.Step.{misses}
 use Rattle.tile_node.specs.Deliver.{home_does, hold_suits, data_taken, return_taken, victim_tile, victim_told, waiting_done, waiting_action}
 use Rattle.tile_node.specs.Inner.{Makes, MakesAlone, with_done}
@@ -103,14 +99,3 @@ pub access_ended : (w : Setup) (v t : Tile) (access : Asked) (content : LineData
     → cost ≡ cost_of w.config (access_class access.op) → clock ≡ saturated (v.core.clock + (cost + delay))
     → record (with_status v Run) { core = record v.core { status = Run; clock = clock } } ≡ waiting_done w t t.cache (Some access) content delay
 access_ended w v t access content delay old place size cost clock done read here wide costs later = rw (later, done, read, here, wide, costs) refl
-
--- an access on a line that is there
-pub written_there : (cache : Sets) (access : Asked) (line addr place size value : ℕ) (write : Option ℕ) → line ≡ line_at addr → addr ≡ access.addr → place ≡ place_in_line access.addr
-    → size ≡ access.size → write ≡ Some value → written cache line place size value ≡ with_written cache access write
-written_there cache access line addr place size value write lies named here wide writes = rw (writes, lies, named, here, wide) refl
-
-pub access_done : (v t : Tile) → v ≡ t → (access : Asked) (old rd count : ℕ) (done : Done) (regs : List ℕ) (reservation : Option Span) (cache : Sets)
-    → cache ≡ with_written v.cache access done.write → regs ≡ with_register v.core.regs rd done.value → rd ≡ access.rd → reservation ≡ reserved access v.core.reservation
-    → count ≡ one_more v.instr → done ≡ finish_of access old
-    → record v { core = record v.core { regs = regs; pc = next_pc v.core.pc; reservation = reservation }; cache = cache; instr = count } ≡ with_done t access (finish_of access old)
-access_done v t is access old rd count done regs reservation cache wrote gave named reserves counted finished = rw (← is, wrote, gave, named, reserves, counted, finished) refl

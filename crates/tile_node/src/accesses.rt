@@ -6,12 +6,12 @@ ghost use Rattle.sim_base.specs.Settings.{IsChecked};
 ghost use Rattle.tile_cache.specs.Cache.{hold_of};
 ghost use Rattle.tile_core.specs.Core.{line_at};
 ghost use Rattle.tile_node.specs.Tile.{suits, is_write, access_class, place_in_line, one_more};
-ghost use Rattle.tile_node.specs.Inner.{with_done};
+ghost use Rattle.tile_node.specs.Inner.{with_done, past};
 ghost use Rattle.mesh_model.specs.Cost.{cost_of};
 
 use crate::tile::TileNode;
 use mesh_model::cost;
-use rv_exec::{Access, AccessOp, finish};
+use rv_exec::{Access, AccessOp, Done, finish};
 use rv_hart::reserved;
 use sim_base::{Action, Config, CostClass, Line};
 use tile_cache::Hold;
@@ -83,22 +83,30 @@ pub(crate) fn delayed(clock: u64, cost: u64, delay: u64) -> u64
 impl TileNode {
     /// Does an access of its thread, whose bytes hold the number `old`, on a line of the cache. The clock stands.
     #[tactic(auto, using(crate::proofs::Facts::writes_only))]
-    #[inline(always)]
     pub(crate) fn do_access(&mut self, access: &Access, old: u64)
         requires number { old < 2 ^ (8 * access.now.size) }
         requires held { is_write access.now.op ≡ true → hold_of self.old.cache (line_at access.now.addr) ≡ Some Hold.M }
         ensures { self.new ≡ with_done self.old access.now (finish_of access.now old) }
     {
         let done = finish(access, old);
-        self.core.regs.set(access.rd(), done.value);
-        self.core.pc = self.core.pc.wrapping_add(4);
-        self.core.reservation = reserved(access, self.core.reservation);
-        self.instr = self.instr.saturating_add(1);
+        self.go_past(access, &done);
         if let Some(value) = done.write {
             let line = line_at(access.addr());
             self.cache
                 .write(line, place_of(access), access.size(), value);
         }
+    }
+
+    /// Its thread goes past an access, which is done: the register gets what it gives, and the instruction is counted. The
+    /// clock and the cache stand.
+    #[inline(always)]
+    pub(crate) fn go_past(&mut self, access: &Access, done: &Done)
+        ensures { self.new ≡ past self.old access.now done.now }
+    {
+        self.core.regs.set(access.rd(), done.value);
+        self.core.pc = self.core.pc.wrapping_add(4);
+        self.core.reservation = reserved(access, self.core.reservation);
+        self.instr = self.instr.saturating_add(1);
     }
 
     /// An instruction of its thread commits.

@@ -3,6 +3,7 @@
 #![tactic(auto)]
 
 mod accesses;
+mod at_once;
 mod deliveries;
 mod homes;
 mod laws;

@@ -10,12 +10,12 @@ ghost use Rattle.wire_msg.specs.Message.{asks};
 ghost use Rattle.tile_node.specs.Tile.{up_message, with_status, is_write, later, access_cost};
 ghost use Rattle.tile_node.specs.Step.{is_writing, can_step, waits_for_limit, looks_around, reaches, probes, misses, sends_write, reads_byte, writes, accesses, does_locally, fails_conditional, exits, begins_write, traps, follows, works, tile_step};
 ghost use Rattle.tile_node.specs.Answers.{IsOf};
-ghost use Rattle.tile_node.specs.Inner.{IsKept, Makes, MakesAlone, with_done, with_hit};
+ghost use Rattle.tile_node.specs.Inner.{IsKept, Makes, MakesAlone, after_hit};
 
 use crate::accesses::{access_cost, is_write, line_at, place_in_line, place_of, suits};
 use crate::tile::TileNode;
 use elf_image::World;
-use rv_exec::Access;
+use rv_exec::{Access, AccessOp};
 use sim_base::{Action, Cause, Config, Line, NoMemory, Policy};
 use std::alloc::Global;
 use tile_cache::Hold;
@@ -23,21 +23,23 @@ use tile_core::{Plan, Status};
 use wire_msg::{Call, Msg, Out};
 
 /// Whether a core reads the bytes of a write.
-fn is_writing(status: &Status) -> bool
+pub(crate) fn is_writing(status: &Status) -> bool
     ensures { result ≡ is_writing status.now }
 {
     matches!(status, Status::Writing)
 }
 
 /// Whether a tile has to wait for the next limit, at this clock and limit.
-fn waits_for_limit(policy: Policy, clock: u64, limit: u64) -> bool
+#[inline(always)]
+pub(crate) fn waits_for_limit(policy: Policy, clock: u64, limit: u64) -> bool
     ensures { result ≡ waits_for_limit policy clock limit }
 {
     matches!(policy, Policy::LaxBarrier) && limit <= clock
 }
 
 /// Whether a tile, one of so many, looks at another one's clock, at this clock and next check.
-fn looks_around(policy: Policy, tiles: u32, clock: u64, next_check: u64) -> bool
+#[inline(always)]
+pub(crate) fn looks_around(policy: Policy, tiles: u32, clock: u64, next_check: u64) -> bool
     ensures { result ≡ looks_around policy tiles clock next_check }
 {
     matches!(policy, Policy::LaxP2p) && 1 < tiles && next_check <= clock
@@ -56,7 +58,6 @@ fn request(line: Line, write: bool) -> Msg
 
 impl TileNode {
     /// The step: the first rule that applies.
-    #[inline(always)]
     pub(crate) fn take_step(
         &mut self,
         alloc: Global,
@@ -78,7 +79,6 @@ impl TileNode {
     }
 
     /// What a step does besides the policies.
-    #[inline(always)]
     fn work(
         &mut self,
         alloc: Global,
@@ -205,7 +205,6 @@ impl TileNode {
     }
 
     /// The next instruction, by its plan.
-    #[inline(always)]
     fn execute(&mut self, world: &World, out: &mut Out) -> Result<Option<Action>, NoMemory>
         requires { IsOf world.now self.old }
         ensures { Makes result self.old self.new out.old.items out.new.items (follows world.now self.old (plan_of world.now self.old.core)) }
@@ -232,7 +231,7 @@ impl TileNode {
 
     /// An instruction that needs nothing but the core.
     #[inline(always)]
-    fn do_locally(&mut self, rd: u8, value: u64, pc: u64, cost: u64) -> Action
+    pub(crate) fn do_locally(&mut self, rd: u8, value: u64, pc: u64, cost: u64) -> Action
         requires { rd < 32 }
         ensures tile { self.new ≡ (does_locally self.old rd value pc cost).tile }
         ensures action { result ≡ Action.Exec self.old.core.thread }
@@ -302,7 +301,6 @@ impl TileNode {
     }
 
     /// A data access: done at once where the cache has its line as the access needs it.
-    #[inline(always)]
     fn access(
         &mut self,
         world: &World,
@@ -320,24 +318,21 @@ impl TileNode {
             return self.miss(world, line, is_write(op), Some(access), out);
         }
         let old = way.content.load(place_of(&access), access.size());
-        self.hit(world.config(), &access, old);
+        self.cache.touch(line);
+        self.do_access(&access, old);
+        self.hit(world.config(), op);
         Ok(Some(Action::Exec {
             thread: self.core.thread,
         }))
     }
 
-    /// An access whose bytes hold the number `old` is done on its line, which is there as the access needs it.
+    /// An access of this kind was done at its step, and takes what such an access costs.
     #[inline(always)]
-    fn hit(&mut self, config: &Config, access: &Access, old: u64)
-        requires checked { IsChecked config.now }
-        requires number { old < 2 ^ (8 * access.now.size) }
-        requires there { IsSome (hold_of self.old.cache (line_at access.now.addr)) }
-        requires held { is_write access.now.op ≡ true → hold_of self.old.cache (line_at access.now.addr) ≡ Some Hold.M }
-        ensures { self.new ≡ with_hit config.now self.old access.now (finish_of access.now old) }
+    pub(crate) fn hit(&mut self, config: &Config, op: AccessOp)
+        requires { IsChecked config.now }
+        ensures { self.new ≡ after_hit config.now self.old op }
     {
-        self.cache.touch(line_at(access.addr()));
-        self.do_access(access, old);
-        let cost = access_cost(config, access.op());
+        let cost = access_cost(config, op);
         self.core.clock = self.core.clock.saturating_add(cost);
         self.hits = self.hits.saturating_add(1);
     }

@@ -1,4 +1,4 @@
-ghost use Rattle.std.specs.Prelude.{◌≡◌, ◌<◌, true, IfOk};
+ghost use Rattle.std.specs.Prelude.{◌≡◌, ◌<◌, true, false, IfOk};
 ghost use Rattle.sim_base.specs.Settings.{IsChecked};
 ghost use Rattle.tile_cache.specs.Cache.{empty_cache};
 ghost use Rattle.tile_node.specs.Tile.{first_core};
@@ -119,6 +119,28 @@ impl TileNode {
         if self.spent {
             return Err(NoMemory);
         }
+        let thread = self.core.thread;
+        if self.step_at_once(world) {
+            return Ok(Some(Action::Exec { thread }));
+        }
+        self.step_by_rules(alloc, world, out)
+    }
+
+    /// Its step, by the rules.
+    #[tactic(auto, using(crate::proofs::Fits::step_fits, crate::proofs::Fits::kept_fits, crate::proofs::OneLinePlain::step_keeps_number))]
+    fn step_by_rules(
+        &mut self,
+        alloc: Global,
+        world: &World,
+        out: &mut Out,
+    ) -> Result<Option<Action>, NoMemory>
+        requires able { self.old.spent ≡ false }
+        requires fits { IsOf world.now self.old }
+        requires can { can_step self.old ≡ true }
+        ensures answers { Answers result self.old self.new out.old.items out.new.items (tile_step world.now self.old) }
+        ensures fits { IsOf world.now self.new }
+        ensures number { self.new.number ≡ self.old.number }
+    {
         match self.take_step(alloc, world, out) {
             Ok(action) => Ok(action),
             Err(error) => {

@@ -1,0 +1,147 @@
+-- What most instructions ask for is their plan.
+use Rattle.std.proofs.Common.{◌≡◌, ℕ, ◌++◌, Bool, true, false, List, Some, refl, sym, ap, ◌∙◌}
+use Rattle.std.specs.Prelude.{Option, not, ◌&&◌, Ok}
+use Rattle.std.proofs.lemmas.Bool.{and_parts}
+use Rattle.std.proofs.lemmas.List.{append-nil}
+use Rattle.sim_base.specs.declared.actions.Action.TheVariants.{Exec}
+use Rattle.sim_base.specs.declared.kinds.CostClass.{CostClass}
+use Rattle.sim_base.specs.declared.settings.Config.{Config}
+use Rattle.elf_image.specs.Layout.{Setup, instruction}
+use Rattle.mesh_model.specs.Cost.{cost_of}
+use Rattle.rv_decode.specs.declared.instr.Instr.{Instr}
+use Rattle.rv_exec.specs.declared.meaning.Meaning.TheVariants.{Next, Access as AccessMeaning}
+use Rattle.rv_exec.specs.Access.{Asked}
+use Rattle.rv_exec.specs.Class.{class_of}
+use Rattle.rv_exec.specs.Effect.{effect_of}
+use Rattle.rv_hart.specs.declared.reservations.Span.{Span}
+use Rattle.rv_hart.specs.declared.steps.Step.TheVariants.{Access as AccessStep}
+use Rattle.rv_hart.specs.Reservation.{lacks_reservation}
+use Rattle.rv_hart.specs.Step.{is_granted, is_allowed, access_step, meaning_step}
+use Rattle.rv_hart.proofs.InstructionLemmas.{lent_step}
+use Rattle.tile_core.specs.declared.cores.TileCore.{TileCore}
+use Rattle.tile_core.specs.declared.plans.Plan.TheVariants.{Local, Access}
+use Rattle.tile_core.specs.Plan.{plan_by, plan_of}
+use Rattle.tile_core.specs.declared.cores.Status.{Status}
+use Rattle.tile_core.specs.declared.cores.Status.TheVariants.{Idle, Run, Miss, Called, Writing, AtBarrier, Probing, Trapped}
+use Rattle.wire_msg.specs.declared.messages.Msg.{Msg}
+use Rattle.tile_node.specs.Tile.{Tile, Act, sent_by}
+use Rattle.tile_node.specs.Answers.{Answers, IsOf, StepsAtOnce}
+use Rattle.tile_node.specs.Step.{accesses, does_locally, follows, tile_step, steps_in, can_step, waits_for_limit, looks_around}
+use Rattle.tile_node.specs.Inner.{DoesAtOnce, runs, runs_freely}
+use Rattle.tile_node.proofs.Fits.{step_fits}
+use Rattle.tile_node.proofs.OneLinePlain.{step_keeps_number}
+
+-- the plan of an instruction, by what it means
+plan_by_meaning : (w : Setup) (core : TileCore) (i : Instr) → instruction w core.pc ≡ Some i
+    → plan_of w core ≡ plan_by w core.pc (meaning_step w core.regs core.reservation core.thread (class_of i) (effect_of i core.regs core.pc))
+plan_by_meaning w core i found = ap (plan_by w core.pc) (lent_step w core.regs core.pc core.reservation core.thread i found)
+
+plan_of_next : (w : Setup) (core : TileCore) (i : Instr) (rd value pc : ℕ) → instruction w core.pc ≡ Some i
+    → effect_of i core.regs core.pc ≡ Next rd value pc
+    → plan_of w core ≡ Local rd value pc (cost_of w.config (class_of i)) false
+plan_of_next w core i rd value pc found e =
+    plan_by_meaning w core i found ∙ ap (λ m. plan_by w core.pc (meaning_step w core.regs core.reservation core.thread (class_of i) m)) e
+
+-- an instruction that gives a register a number is done at once by its plan
+pub next_at_once : (w : Setup) (v t : Tile) → v ≡ t → (new : Tile) (i : Instr) (rd value pc cost : ℕ) (config : Config) (class : CostClass)
+    → instruction w v.core.pc ≡ Some i → effect_of i v.core.regs v.core.pc ≡ Next rd value pc → config ≡ w.config → class ≡ class_of i
+    → cost ≡ cost_of config class → new ≡ (does_locally t rd value pc cost).tile
+    → DoesAtOnce true t new (follows w t (plan_of w t.core))
+next_at_once w v t is new i rd value pc cost config class found e same of_class of_cost made =
+    let plan : plan_of w t.core ≡ Local rd value pc (cost_of w.config (class_of i)) false = rw (← is) (plan_of_next w v.core i rd value pc found e) in
+    let dear : cost ≡ cost_of w.config (class_of i) = rw (same, of_class) at of_cost in
+    rw plan ((rw dear at made, refl, refl), rw made refl)
+
+-- an access that is allowed is made as it is asked for
+by_rights : (w : Setup) (r : Option Span) (access : Asked) (granted lacks : Bool) → is_granted w access ≡ granted → lacks_reservation r access ≡ lacks
+    → (granted && not lacks) ≡ true → access_step w r access ≡ AccessStep access
+by_rights w r access true false g l h = rw (g, l) refl
+by_rights w r access true true g l h = cc
+by_rights w r access false lacks g l h = cc
+
+allowed_step : (w : Setup) (r : Option Span) (access : Asked) → is_allowed w r access ≡ true → access_step w r access ≡ AccessStep access
+allowed_step w r access h = by_rights w r access (is_granted w access) (lacks_reservation r access) refl refl h
+
+plan_of_access : (w : Setup) (core : TileCore) (i : Instr) (access : Asked) → instruction w core.pc ≡ Some i
+    → effect_of i core.regs core.pc ≡ AccessMeaning access → is_allowed w core.reservation access ≡ true
+    → plan_of w core ≡ Access access
+plan_of_access w core i access found e h =
+    plan_by_meaning w core i found
+    ∙ ap (λ m. plan_by w core.pc (meaning_step w core.regs core.reservation core.thread (class_of i) m)) e
+    ∙ ap (plan_by w core.pc) (allowed_step w core.reservation access h)
+
+-- so is an access that is allowed
+pub access_at_once : (w : Setup) (v t : Tile) → v ≡ t → (new : Tile) (i : Instr) (access : Asked) (allowed : Bool) → instruction w v.core.pc ≡ Some i
+    → effect_of i v.core.regs v.core.pc ≡ AccessMeaning access → allowed ≡ is_allowed w v.core.reservation access → allowed ≡ true
+    → (does : Bool) → DoesAtOnce does t new (accesses w t access) → DoesAtOnce does t new (follows w t (plan_of w t.core))
+access_at_once w v t is new i access allowed found e tells has does made =
+    let plan : plan_of w t.core ≡ Access access = rw (← is) (plan_of_access w v.core i access found e (sym tells ∙ has)) in
+    rw plan made
+
+-- a thread that runs freely executes an instruction in its step
+by_tests : (w : Setup) (t : Tile) (status : Status) (waits looks : Bool) → t.core.status ≡ status → waits_for_limit w.config.policy t.core.clock t.core.limit ≡ waits
+    → looks_around w.config.policy w.config.tiles t.core.clock t.core.next_check ≡ looks → (runs status && not waits && not looks) ≡ true
+    → tile_step w t ≡ follows w t (plan_of w t.core)
+by_tests w t Run false false is waits looks h = rw (is, waits, looks) refl
+by_tests w t Run false true is waits looks h = cc
+by_tests w t Run true looks is waits e h = cc
+by_tests w t Idle b c is waits looks h = cc
+by_tests w t (Miss access) b c is waits looks h = cc
+by_tests w t Called b c is waits looks h = cc
+by_tests w t Writing b c is waits looks h = cc
+by_tests w t (AtBarrier writing) b c is waits looks h = cc
+by_tests w t (Probing writing partner replies) b c is waits looks h = cc
+by_tests w t Trapped b c is waits looks h = cc
+
+free_step : (w : Setup) (t : Tile) → runs_freely w.config t.core ≡ true → tile_step w t ≡ follows w t (plan_of w t.core)
+free_step w t h = by_tests w t t.core.status (waits_for_limit w.config.policy t.core.clock t.core.limit)
+    (looks_around w.config.policy w.config.tiles t.core.clock t.core.next_check) refl refl refl h
+
+-- a step that is made at once
+by_status : (status : Status) → runs status ≡ true → steps_in status ≡ true
+by_status Run h = refl
+by_status Idle h = cc
+by_status (Miss access) h = cc
+by_status Called h = cc
+by_status Writing h = cc
+by_status (AtBarrier writing) h = cc
+by_status (Probing writing partner replies) h = cc
+by_status Trapped h = cc
+
+step_made : (w : Setup) (t new : Tile) (does : Bool) → runs_freely w.config t.core ≡ true → DoesAtOnce does t new (follows w t (plan_of w t.core))
+    → StepsAtOnce does t new (tile_step w t)
+step_made w t new true free made =
+    let waits = waits_for_limit w.config.policy t.core.clock t.core.limit in
+    let looks = looks_around w.config.policy w.config.tiles t.core.clock t.core.next_check in
+    let step : tile_step w t ≡ follows w t (plan_of w t.core) = free_step w t free in
+    let ran : runs t.core.status ≡ true = (and_parts (runs t.core.status) (not waits) (and_parts (runs t.core.status && not waits) (not looks) free).0).0 in
+    let can : can_step new ≡ true = rw made.1 (by_status t.core.status ran) in
+    rw step (made.0.0, made.0.1, made.0.2, can)
+step_made w t new false free made = made
+
+-- what is known of the tile after a step that was made at once, or wasn't
+pub record IsSteppedAtOnce (w : Setup) (t new : Tile) (does : Bool) : Type 0 where
+  pub answers : StepsAtOnce does t new (tile_step w t)
+  pub fits : IsOf w new
+  pub number : new.number ≡ t.number
+
+after_step : (w : Setup) (t new : Tile) (does : Bool) → IsOf w t → StepsAtOnce does t new (tile_step w t) → IsSteppedAtOnce w t new does
+after_step w t new true fits made = record {
+  answers = made;
+  fits = rw made.0 (step_fits w t fits);
+  number = ap (λ (a : Tile). a.number) made.0 ∙ step_keeps_number w t;
+}
+after_step w t new false fits made = record { answers = made; fits = rw made fits; number = ap (λ (a : Tile). a.number) made }
+
+pub steps_at_once : (w : Setup) (t new : Tile) (config : Config) (free does : Bool) → config ≡ w.config → IsOf w t → free ≡ runs_freely config t.core → free ≡ true
+    → DoesAtOnce does t new (follows w t (plan_of w t.core)) → IsSteppedAtOnce w t new does
+steps_at_once w t new config free does same fits tells has made =
+    after_step w t new does fits (step_made w t new does (rw same at (sym tells ∙ has)) made)
+
+-- an act that was done at once is what the step answers
+pub answers_at_once : (v t : Tile) → v ≡ t → (new : Tile) (act : Act) (does : Bool) (sent : List (ℕ × Msg)) → does ≡ true → StepsAtOnce does t new act → v.spent ≡ false
+    → Answers (Ok (Some (Exec v.core.thread))) t new sent sent act
+answers_at_once v t is new act does sent has done able =
+    let made : StepsAtOnce true t new act = rw has at done in
+    let stays : sent ≡ sent ++ sent_by act = sym (ap (λ m. sent ++ m) made.1 ∙ append-nil sent) in
+    (rw is at able, made.0, stays, rw is made.2)
