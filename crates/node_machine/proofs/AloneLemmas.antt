@@ -1,12 +1,12 @@
 -- Steps of one node, one after the other.
-use Rattle.std.proofs.Common.{◌≡◌, ℕ, zero, suc, ◌+◌, ◌-◌, ◌<◌, ◌≤◌, true, List, [], refl, sym, ap, subst, ◌∙◌, arith, inl, inr}
+use Rattle.std.proofs.Common.{◌≡◌, ℕ, zero, suc, ◌+◌, ◌-◌, ◌<◌, ◌≤◌, true, false, List, [], refl, sym, ap, subst, ◌∙◌, arith, inl, inr}
 use Rattle.std.proofs.lemmas.Bool.Decides.{eqb_tells}
 use Rattle.elf_image.specs.Layout.{Setup}
 use Rattle.wire_msg.specs.declared.messages.Msg.{Msg}
 use Rattle.node_machine.specs.declared.nodes.Node.{Node}
 use Rattle.node_machine.specs.Machine.{can_step, node_step}
 use Rattle.node_machine.specs.Alone.{stepped}
-use Rattle.node_machine.specs.Inner.{AreSteps, StepsSoFar, last_sent}
+use Rattle.node_machine.specs.Inner.{StepsSoFar, NodeHasStepped}
 
 -- one step more
 pub stepped_suc : (w : Setup) (node : Node) (n : ℕ) → stepped w node (suc n) ≡ (node_step w (stepped w node n)).node
@@ -50,29 +50,25 @@ module _ (w : Setup) (node now new : Node) (n : ℕ) (so_far : StepsSoFar w node
     }
 
     -- or ends with that step
-    pub last_step : AreSteps w node (n + 1)
-    last_step = record {
-      some = omega arith;
-      can = λ k low. so_far.can k low;
-      quiet = λ k low. so_far.quiet k (omega (arith, low));
-    }
-
-    pub last_is : new ≡ stepped w node (n + 1)
-    last_is = next_is
-
-    pub last_sends : (node_step w now).sent ≡ last_sent w node (n + 1)
-    last_sends =
+    pub ends_after : (most : ℕ) (mail : List (ℕ × Msg)) → n < most → mail ≡ (node_step w now).sent
+        → (n + 1 < most → mail ≡ [] → can_step new ≡ false) → NodeHasStepped w most (n + 1) node new mail
+    ends_after most mail low is stops =
         let before : n ≡ n + 1 - 1 = omega arith in
-        ap (λ a. (node_step w a).sent) so_far.here ∙ ap (λ m. (node_step w (stepped w node m)).sent) before
+        record {
+          few = omega (arith, low);
+          are = record {
+            some = omega arith;
+            can = λ k low. so_far.can k low;
+            quiet = λ k low. so_far.quiet k (omega (arith, low));
+          };
+          stops = stops;
+          node = next_is;
+          sent = is ∙ ap (λ a. (node_step w a).sent) so_far.here ∙ ap (λ m. (node_step w (stepped w node m)).sent) before;
+        }
 
-  -- or with those so far, of which the last sent nothing
-  module _ (some : 0 < n) where
-    pub those_steps : AreSteps w node n
-    those_steps = record {
-      some = some;
-      can = λ k low. so_far.can k (omega (arith, low));
-      quiet = λ k low. so_far.quiet k (omega (arith, low));
-    }
+-- a tile that may make all the steps that it has room for, or another node that may make one, has room for them
+pub steps_fit : (id tiles made most room : ℕ) → made < room → (id < tiles → made + most ≡ room) → (tiles ≤ id → most ≡ 1) → made + most ≤ room
+steps_fit id tiles made most room below tile other = grind arith
 
-    pub those_send : [] ≡ last_sent w node n
-    those_send = sym (so_far.quiet (n - 1) (omega (arith, some)))
+pub several_are_of_a_tile : (id tiles n most : ℕ) → 1 < n → n ≤ most → (tiles ≤ id → most ≡ 1) → id < tiles
+several_are_of_a_tile id tiles n most many few other = grind arith

@@ -1,6 +1,7 @@
 -- What is made of a state by an event that was made of a core.
-use Rattle.std.proofs.Common.{◌≡◌, ℕ, ◌+◌, ◌<◌, Bool, true, false, List, [], ◌∷◌, length, refl, sym, ap, subst, ◌∙◌, arith}
-use Rattle.std.specs.Prelude.{Option, Some, ◌&&◌, not, nat_lt, slice_get, slice_index, slice_set}
+use Rattle.std.proofs.Common.{◌≡◌, ℕ, ◌+◌, ◌<◌, true, List, [], ◌∷◌, length, refl, sym, ap, subst, ◌∙◌, arith}
+use Rattle.std.specs.Prelude.{Option, Some, not, nat_lt, slice_get, slice_index, slice_set}
+use Rattle.std.proofs.lemmas.Bool.{and_parts}
 use Rattle.std.proofs.lemmas.Bool.Decides.{nat_tests}
 use Rattle.std.proofs.lemmas.Option.{same_Some, slice_get_within}
 use Rattle.sim_base.specs.declared.actions.Action.{Action}
@@ -21,14 +22,6 @@ use Rattle.node_machine.specs.Inner.{event_act, inboxes_left, IsDone}
 use Rattle.node_machine.proofs.MailLemmas.{with_rest_is}
 use Rattle.node_machine.proofs.MadeLemmas.{changed_shows, rest_shows}
 use Rattle.node_machine.proofs.ShownLemmas.{reads}
-
-first_of_and : (a b : Bool) → (a && b) ≡ true → a ≡ true
-first_of_and true b e = refl
-first_of_and false b e = cc (e)
-
-last_of_and : (a b : Bool) → (a && b) ≡ true → b ≡ true
-last_of_and true b e = e
-last_of_and false b e = cc (e)
 
 module _ (w : Setup) (core new : CoreData) (s : State Node Msg) (action : Option Action) (before after : PendingData) (node : Node)
     (is : IsCore w core) (shows : Shows core s) (here : before.inboxes ≡ core.inboxes) (there : new.inboxes ≡ after.inboxes) where
@@ -86,8 +79,11 @@ module _ (w : Setup) (core new : CoreData) (s : State Node Msg) (action : Option
       → IsMade w (Deliver from k) action core new s
   delivery_made from k at enabled done made =
       let can : can_happen (rules w) (node_count w.config) s (Deliver from k) ≡ true = sym ((reads w core s is shows).enabled (Deliver from k)) ∙ enabled in
-      let sender : nat_lt from (node_count w.config) ≡ true = first_of_and _ _ can in
-      taken_made from k (s.queue from k) refl at (grind (arith, nat_tests)) (last_of_and (nat_lt (s.made k) (rules w).room) _ (last_of_and (nat_lt k (node_count w.config)) _ (last_of_and (nat_lt from (node_count w.config)) _ can))) can done made
+      let both = and_parts (nat_lt from (node_count w.config)) _ can in
+      let sender : nat_lt from (node_count w.config) ≡ true = both.0 in
+      let own = and_parts (nat_lt k (node_count w.config)) _ both.1 in
+      let waits = and_parts (nat_lt (s.made k) (rules w).room) _ own.1 in
+      taken_made from k (s.queue from k) refl at (grind (arith, nat_tests)) waits.1 can done made
 
   pub event_made : (event : Event) → slice_get core.nodes (acting_node event) ≡ Some node → is_enabled_in core event ≡ true
       → IsDone w event node action core.nodes new.nodes before after

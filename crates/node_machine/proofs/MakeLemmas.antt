@@ -1,10 +1,11 @@
 -- What making an event leaves of the nodes and of what is pending.
 use Rattle.std.proofs.Common.{◌≡◌, ◌≢◌, ℕ, zero, suc, ◌<◌, ◌≤◌, Bool, true, false, List, [], ◌∷◌, ◌++◌, length, map, refl, sym, ap, subst, ◌∙◌, arith, inl, inr}
 use Rattle.std.specs.Prelude.{Option, Some, None, All, replicate, ◌&&◌, ◌||◌, nat_lt, nat_le, slice_get, slice_set, slice_index}
+use Rattle.std.proofs.lemmas.Bool.{and_parts}
 use Rattle.std.proofs.lemmas.Bool.Decides.{eqb_tells, nat_tests}
 use Rattle.std.proofs.lemmas.List.{length-set, get_or-set_same, map-set}
 use Rattle.std.proofs.lemmas.List.Elements.{All-nil, All-cons}
-use Rattle.std.proofs.lemmas.Option.{same_Some, slice_get-get_or, slice_get_within, slice_get_cases}
+use Rattle.std.proofs.lemmas.Option.{same_Some, slice_get-get_or, slice_get_within, slice_get_cases, get_or_from_slice_get}
 use Rattle.sim_base.specs.declared.actions.Action.{Action}
 use Rattle.elf_image.specs.Layout.{Setup}
 use Rattle.wire_msg.specs.declared.messages.Msg.{Msg}
@@ -89,24 +90,19 @@ push_all P (y ∷ ys) x each last (suc k) a at = push_all (λ n. P (suc n)) ys x
 
 -- where an event is enabled, its node is there and has room
 pub record ActsThere (core : CoreData) (id : ℕ) : Type 0 where
-  pub made : ℕ
-  pub made_at : slice_get core.made id ≡ Some made
-  pub room : made < core.room
+  pub room : slice_index core.made id < core.room
   pub node : Node
   pub node_at : slice_get core.nodes id ≡ Some node
-
-first_of_and : (a b : Bool) → (a && b) ≡ true → a ≡ true
-first_of_and true b e = refl
-first_of_and false b e = cc (e)
 
 there_by : (core : CoreData) (id : ℕ) (can : Bool) (found : Option ℕ) → length core.made ≡ length core.nodes → slice_get core.made id ≡ found
     → (has_room core.room found && can) ≡ true → ActsThere core id
 there_by core id can None same at enabled = cc (enabled)
 there_by core id can (Some made) same at enabled =
-    let room : nat_lt made core.room ≡ true = first_of_and (nat_lt made core.room) can enabled in
+    let room : nat_lt made core.room ≡ true = (and_parts (nat_lt made core.room) can enabled).0 in
+    let low : made < core.room = grind (arith, nat_tests) in
     let inside : id < length core.nodes = subst (λ n. id < n) same (slice_get_within core.made id made at) in
     elim (slice_get_cases core.nodes id).1 [
-      | inl here ↦ record { made = made; made_at = at; room = grind (arith, nat_tests); node = here.0; node_at = here.2 }
+      | inl here ↦ record { room = rw (get_or_from_slice_get core.made id made 0 at) low; node = here.0; node_at = here.2 }
       | inr past ↦ absurd (omega (arith, inside, past.0))
     ]
 

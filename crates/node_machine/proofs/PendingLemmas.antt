@@ -1,5 +1,5 @@
 -- Who waits and who can act, after one list of messages or one node has changed.
-use Rattle.std.proofs.Common.{◌≡◌, ℕ, ◌<◌, Bool, true, false, cond, List, [], ◌∷◌, ◌++◌, length, get_or, set, map, replicate, drop, Global, deque_len, Result, Ok, Err, refl, sym, ap, ◌∙◌, subst, arith, inl, inr, if◌then◌else◌}
+use Rattle.std.proofs.Common.{◌≡◌, ℕ, ◌<◌, Bool, true, false, cond, List, [], ◌∷◌, ◌++◌, length, get_or, set, map, replicate, Global, deque_len, Result, Ok, Err, refl, sym, ap, ◌∙◌, subst, arith, inl, inr, if◌then◌else◌}
 use Rattle.std.specs.Prelude.{not, ◌==◌, ◌||◌, nat_lt, OnErr, filter}
 use Rattle.std.specs.List.{range_with_len}
 use Rattle.std.proofs.lemmas.Bool.{cases_lt, cases_Bool, eqb-true, eqb-false, false≢true}
@@ -96,14 +96,9 @@ pub pushed_some : (messages : List Msg) (msg : Msg) → is_empty (messages ++ ms
 pushed_some [] msg = refl
 pushed_some (first ∷ rest) msg = refl
 
--- what stays is all but the first
-pub rest_is : (messages : List Msg) → drop 1 messages ≡ rest_of messages
-rest_is [] = refl
-rest_is (first ∷ rest) = refl
-
 -- what a queue keeps without its first message
-pub queue_rest : (queues : List (VecDeque Msg Global)) (from : ℕ) (old new : VecDeque Msg Global) → from < length queues → old ≡ get_or queues from old → new.items ≡ drop 1 old.items → new.items ≡ rest_of (queue_from (map items_of queues) from)
-queue_rest queues from old new l read rest = rest ∙ rest_is old.items ∙ ap rest_of (queue_read queues from old l read)
+pub queue_rest : (queues : List (VecDeque Msg Global)) (from : ℕ) (old new : VecDeque Msg Global) → from < length queues → old ≡ get_or queues from old → new.items ≡ rest_of old.items → new.items ≡ rest_of (queue_from (map items_of queues) from)
+queue_rest queues from old new l read rest = rest ∙ ap rest_of (queue_read queues from old l read)
 
 -- a queue is empty as its length tells
 pub queue_empty : (queue : VecDeque Msg Global) → is_empty queue.items ≡ (deque_len queue == 0)

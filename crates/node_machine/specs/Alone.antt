@@ -1,5 +1,5 @@
 -- Steps that one node makes one after the other, while no other node acts. This simulator's own.
-use Rattle.std.specs.Prelude.{ℕ, zero, suc, ◌+◌, ◌≡◌, ◌<◌, true, false, List, [], ◌∷◌, Result, Ok, Err}
+use Rattle.std.specs.Prelude.{ℕ, zero, suc, ◌+◌, ◌-◌, ◌≡◌, ◌<◌, true, false, List, [], ◌∷◌, Result, Ok, Err}
 use Rattle.sim_base.specs.Numbering.{node_count}
 use Rattle.elf_image.specs.Layout.{Setup}
 use Rattle.wire_msg.specs.declared.messages.Msg.{Msg}
@@ -10,7 +10,7 @@ use Rattle.event_journal.specs.Run.{IsRun, after, can_happen}
 use Rattle.node_machine.specs.declared.nodes.Node.{Node}
 use Rattle.node_machine.specs.declared.cores.ApplyFault.{ApplyFault}
 use Rattle.node_machine.specs.declared.cores.ApplyFault.TheVariants.{NotEnabled, NoMemory}
-use Rattle.node_machine.specs.Machine.{node_step, rules}
+use Rattle.node_machine.specs.Machine.{can_step, node_step, rules}
 use Rattle.node_machine.specs.Core.{CoreData, Shows}
 
 -- a node after so many of its steps
@@ -24,12 +24,15 @@ steps_of node zero = []
 steps_of node (suc n) = Step node ∷ steps_of node n
 
 -- so many steps of a node were made from a state: they are a run from it, none of them but the last sends anything, and the
--- state after them is shown. Of a node that is no tile it is one step
+-- state after them is shown. Of a node that is no tile it is one step. Of a tile they are all: the last sends something, or
+-- the tile can't step after it, or has made as many events as it may
 pub record AreMade (w : Setup) (node n : ℕ) (new : CoreData) (s : State Node Msg) : Type 0 where
   pub some : 0 < n
   pub tile : 1 < n → node < w.config.tiles
   pub run : IsRun (rules w) (node_count w.config) s (steps_of node n)
   pub quiet : (k : ℕ) → k + 1 < n → (node_step w (stepped w (s.node node) k)).sent ≡ []
+  pub all : node < w.config.tiles → (node_step w (stepped w (s.node node) (n - 1))).sent ≡ [] → can_step (stepped w (s.node node) n) ≡ true
+      → s.made node + n ≡ w.config.events
   pub shows : Shows new (after (rules w) s (steps_of node n))
 
 -- what making steps of a node answers, as making one event does

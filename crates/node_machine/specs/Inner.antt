@@ -1,5 +1,5 @@
 -- For the contracts of the code alone: no clause of a public function needs this.
-use Rattle.std.specs.Prelude.{ℕ, ◌≡◌, ◌<◌, ◌≤◌, ◌+◌, ◌-◌, true, List, [], length, map, slice_get, slice_set, Option, Some, None, Result, Ok, Err}
+use Rattle.std.specs.Prelude.{ℕ, ◌≡◌, ◌<◌, ◌≤◌, ◌+◌, ◌-◌, Bool, true, false, List, [], length, map, slice_get, slice_set, Option, Some, None, Result, Ok, Err}
 use Rattle.sim_base.specs.declared.actions.Action.{Action}
 use Rattle.sim_base.specs.declared.memory.NoMemory.{NoMemory}
 use Rattle.elf_image.specs.Layout.{Setup}
@@ -57,6 +57,17 @@ AreBelow count envelope = (envelope.from < count) × (envelope.to < count)
 
 -- steps of one node
 
+-- a step that is made at once, or not
+abbrev pub NodeStepsAtOnce : Setup → Bool → Node → Node → Type 0
+NodeStepsAtOnce w true old new = (new ≡ (node_step w old).node) × ((node_step w old).sent ≡ []) × (can_step new ≡ true)
+NodeStepsAtOnce w false old new = new ≡ old
+
+-- one step, and whether the node can go on: nothing was sent, and it can step again
+abbrev pub StepsOnce : Setup → Result Bool NoMemory → Node → Node → List (ℕ × Msg) → Type 0
+StepsOnce w (Ok true) old new mail = (new ≡ (node_step w old).node) × (mail ≡ (node_step w old).sent) × (mail ≡ []) × (can_step new ≡ true)
+StepsOnce w (Ok false) old new mail = (new ≡ (node_step w old).node) × (mail ≡ (node_step w old).sent) × (mail ≡ [] → can_step new ≡ false)
+StepsOnce w (Err e) old new mail = Unit {0}
+
 -- so many steps of a node can be made one after the other, and none but the last sends anything
 pub record AreSteps (w : Setup) (node : Node) (n : ℕ) : Type 0 where
   pub some : 0 < n
@@ -73,15 +84,25 @@ pub record StepsSoFar (w : Setup) (node now : Node) (n : ℕ) : Type 0 where
   pub can : (k : ℕ) → k < n + 1 → can_step (stepped w node k) ≡ true
   pub quiet : (k : ℕ) → k < n → (node_step w (stepped w node k)).sent ≡ []
 
+-- so many of a node's steps, of so many at most, were made one after the other, and sent this. They are fewer only where the
+-- last sends something, or the node can't step after it
+pub record NodeHasStepped (w : Setup) (most n : ℕ) (old new : Node) (mail : List (ℕ × Msg)) : Type 0 where
+  pub few : n ≤ most
+  pub are : AreSteps w old n
+  pub stops : n < most → mail ≡ [] → can_step new ≡ false
+  pub node : new ≡ stepped w old n
+  pub sent : mail ≡ last_sent w old n
+
 -- what a node's steps answer
 abbrev pub NodeStepsOn : Setup → ℕ → Result ℕ NoMemory → Node → Node → List (ℕ × Msg) → Type 0
-NodeStepsOn w most (Ok n) old new sent = (n ≤ most) × AreSteps w old n × (new ≡ stepped w old n) × (sent ≡ last_sent w old n)
-NodeStepsOn w most (Err e) old new sent = Unit {0}
+NodeStepsOn w most (Ok n) old new mail = NodeHasStepped w most n old new mail
+NodeStepsOn w most (Err e) old new mail = Unit {0}
 
 -- the steps of a node among the machine's are made
 pub record StepsAreDone (w : Setup) (id most n : ℕ) (node : Node) (old new : List Node) (before after : PendingData) : Type 0 where
   pub few : n ≤ most
   pub are : AreSteps w node n
+  pub stops : n < most → last_sent w node n ≡ [] → can_step (stepped w node n) ≡ false
   pub nodes : new ≡ slice_set old id (stepped w node n)
   pub inboxes : after.inboxes ≡ with_messages id (last_sent w node n) before.inboxes
   pub steps : after.steps ≡ map can_step new

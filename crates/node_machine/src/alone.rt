@@ -1,12 +1,12 @@
-ghost use Rattle.std.specs.Prelude.{◌≡◌, ◌<◌, ◌≤◌, ◌+◌, [], true, length, map, slice_index, slice_set, OnOk};
+ghost use Rattle.std.specs.Prelude.{◌≡◌, ◌<◌, ◌≤◌, ◌+◌, [], true, length, map, slice_index, OnOk};
 ghost use Rattle.node_machine.specs.Machine.{can_step, IsNode};
 ghost use Rattle.node_machine.specs.Pending.{AreInboxes};
-ghost use Rattle.node_machine.specs.Core.{is_full, IsCore};
+ghost use Rattle.node_machine.specs.Core.{IsCore};
 ghost use Rattle.node_machine.specs.Alone.{StepsOn};
-ghost use Rattle.node_machine.specs.Inner.{AreNodes, CanStepAt, NodeStepsOn, HaveStepped};
+ghost use Rattle.node_machine.specs.Inner.{AreNodes, CanStepAt, NodeStepsAtOnce, StepsOnce, NodeStepsOn, HaveStepped};
 
 use crate::cores::{ApplyFault, Core};
-use crate::making::post;
+use crate::making::{count_events, post};
 use crate::nodes::Node;
 use crate::pending::Pending;
 use elf_image::World;
@@ -42,18 +42,18 @@ impl Core {
         ) else {
             return Err(ApplyFault::NoMemory);
         };
-        count_steps(&mut self.made, &mut self.full, node, count, self.room);
+        count_events(&mut self.made, &mut self.full, node, count, self.room);
         self.spent = false;
         Ok(count)
     }
 
-    /// How many steps of a node, which may make one more event, are made one after the other at most.
+    /// How many steps of a node, which may make one more event, are made one after the other at most: of a tile as many as
+    /// it may make events, of another node one.
     fn steps_at_once(&self, node: NodeId) -> u32
         requires in_range { node < length self.now.made }
         requires room { slice_index self.now.made node < self.now.room }
-        ensures some { 0 < result }
-        ensures room { slice_index self.now.made node + result ≤ self.now.room }
-        ensures tile { 1 < result → node < self.now.tiles }
+        ensures tile { node < self.now.tiles → slice_index self.now.made node + result ≡ self.now.room }
+        ensures other { self.now.tiles ≤ node → result ≡ 1 }
     {
         if (node as u32) < self.tiles {
             self.room - self.made[node as usize]
@@ -81,12 +81,47 @@ impl Node {
         ensures fits { IsNode world.now id self.new }
     {
         for done in 0..most {
-            self.step(alloc, world, id, out)?;
-            if !out.is_empty() || !self.can_step() {
+            if !self.step_once(alloc, world, id, out)? {
                 return Ok(done + 1);
             }
         }
         Ok(most)
+    }
+
+    /// Makes one step, and gives whether it can go on: nothing was sent, and it can step again.
+    #[inline(always)]
+    fn step_once(
+        &mut self,
+        alloc: Global,
+        world: &World,
+        id: NodeId,
+        out: &mut Out,
+    ) -> Result<bool, NoMemory>
+        requires fits { IsNode world.now id self.old }
+        requires can { can_step self.old ≡ true }
+        requires none_sent { out.old.items ≡ [] }
+        ensures step { StepsOnce world.now result self.old self.new out.new.items }
+        ensures fits { IsNode world.now id self.new }
+    {
+        if self.step_at_once(world, id) {
+            return Ok(true);
+        }
+        self.step(alloc, world, id, out)?;
+        Ok(out.is_empty() && self.can_step())
+    }
+
+    /// Makes its step, where it is a tile and that is an instruction that needs nothing but the tile, and gives true. Else
+    /// nothing changes.
+    #[inline(always)]
+    fn step_at_once(&mut self, world: &World, id: NodeId) -> bool
+        requires { IsNode world.now id self.old }
+        ensures step { NodeStepsAtOnce world.now result self.old self.new }
+        ensures fits { IsNode world.now id self.new }
+    {
+        match self {
+            Node::Tile { tile } => tile.step_at_once(world),
+            Node::Control { .. } | Node::Local { .. } => false,
+        }
     }
 }
 
@@ -116,21 +151,4 @@ fn step_all(
     pending.set_step(id, node.can_step());
     post(id, out, pending)?;
     Ok(count)
-}
-
-/// A node, which may make so many more events, has made them. It is noted whether some node may make none after them.
-#[tactic(auto, using(crate::proofs::MakeLemmas::full_set))]
-fn count_steps(made: &mut Vec<u32>, full: &mut bool, id: NodeId, steps: u32, room: u32)
-    requires in_range { id < length made.old.items }
-    requires below { slice_index made.old.items id < room }
-    requires room { slice_index made.old.items id + steps ≤ room }
-    requires full { full.old ≡ is_full room made.old.items }
-    ensures made { made.new.items ≡ slice_set made.old.items id (slice_index made.old.items id + steps) }
-    ensures full { full.new ≡ is_full room made.new.items }
-{
-    let count = &mut made[id as usize];
-    *count += steps;
-    if room <= *count {
-        *full = true;
-    }
 }

@@ -1,7 +1,7 @@
 ghost use Rattle.std.specs.Prelude.{◌≡◌, All, IfOk};
 ghost use Rattle.node_machine.specs.Core.{AreIn, AreParts, core_of, start_core, IsCore, Applies};
 
-use crate::making::{count_event, is_full, make, pending_of};
+use crate::making::{count_events, is_full, make, pending_of};
 use crate::nodes::Node;
 use crate::pending::Pending;
 use elf_image::World;
@@ -133,7 +133,7 @@ impl Core {
         ) else {
             return Err(ApplyFault::NoMemory);
         };
-        count_event(&mut self.made, &mut self.full, event.node(), self.room);
+        count_events(&mut self.made, &mut self.full, event.node(), 1, self.room);
         self.spent = false;
         Ok(action)
     }

@@ -87,6 +87,7 @@ fn take(
 }
 
 /// What a node has sent joins the lists of its receivers, in order.
+#[inline(always)]
 pub(crate) fn post(from: NodeId, out: &mut Out, pending: &mut Pending) -> Result<(), NoMemory>
     requires from { from < length pending.old.inboxes }
     requires inboxes { AreInboxes (length pending.old.inboxes) pending.old.inboxes }
@@ -94,9 +95,36 @@ pub(crate) fn post(from: NodeId, out: &mut Out, pending: &mut Pending) -> Result
     ensures none_sent { OnOk result (out.new.items ≡ []) }
     ensures inboxes { AreInboxes (length pending.old.inboxes) pending.new.inboxes }
 {
-    if out.is_empty() {
-        return Ok(());
+    match out.len() {
+        0 => Ok(()),
+        1 => post_only(from, out, pending),
+        _ => post_each(from, out, pending),
     }
+}
+
+/// The only message that a node has sent joins the list of its receiver.
+fn post_only(from: NodeId, out: &mut Out, pending: &mut Pending) -> Result<(), NoMemory>
+    requires from { from < length pending.old.inboxes }
+    requires inboxes { AreInboxes (length pending.old.inboxes) pending.old.inboxes }
+    requires only { length out.old.items ≡ 1 }
+    ensures posted { OnOk result (pending.new ≡ record pending.old { inboxes = with_messages from out.old.items pending.old.inboxes }) }
+    ensures none_sent { OnOk result (out.new.items ≡ []) }
+    ensures inboxes { AreInboxes (length pending.old.inboxes) pending.new.inboxes }
+{
+    if let Some((to, msg)) = out.pop() {
+        post_one(from, to, msg, pending)?;
+    }
+    Ok(())
+}
+
+/// The messages that a node has sent join the lists of their receivers, in order.
+fn post_each(from: NodeId, out: &mut Out, pending: &mut Pending) -> Result<(), NoMemory>
+    requires from { from < length pending.old.inboxes }
+    requires inboxes { AreInboxes (length pending.old.inboxes) pending.old.inboxes }
+    ensures posted { OnOk result (pending.new ≡ record pending.old { inboxes = with_messages from out.old.items pending.old.inboxes }) }
+    ensures none_sent { OnOk result (out.new.items ≡ []) }
+    ensures inboxes { AreInboxes (length pending.old.inboxes) pending.new.inboxes }
+{
     for (to, msg) in out.drain(..) {
         post_one(from, to, msg, pending)?;
     }
@@ -117,17 +145,18 @@ fn post_one(from: NodeId, to: NodeId, msg: Msg, pending: &mut Pending) -> Result
     Ok(())
 }
 
-/// A node, which may make one more event, has made it. It is noted whether some node may make none after it.
+/// A node, which may make so many more events, has made them. It is noted whether some node may make none after them.
 #[tactic(auto, using(crate::proofs::MakeLemmas::full_set))]
-pub(crate) fn count_event(made: &mut Vec<u32>, full: &mut bool, id: NodeId, room: u32)
+pub(crate) fn count_events(made: &mut Vec<u32>, full: &mut bool, id: NodeId, more: u32, room: u32)
     requires in_range { id < length made.old.items }
-    requires room { slice_index made.old.items id < room }
+    requires below { slice_index made.old.items id < room }
+    requires room { slice_index made.old.items id + more ≤ room }
     requires full { full.old ≡ is_full room made.old.items }
-    ensures made { made.new.items ≡ slice_set made.old.items id (slice_index made.old.items id + 1) }
+    ensures made { made.new.items ≡ slice_set made.old.items id (slice_index made.old.items id + more) }
     ensures full { full.new ≡ is_full room made.new.items }
 {
     let count = &mut made[id as usize];
-    *count += 1;
+    *count += more;
     if room <= *count {
         *full = true;
     }

@@ -58,7 +58,7 @@ impl Inbox {
         ensures rest { self.new ≡ with_queue_from self.old from (rest_of (queue_from self.old from)) }
     {
         let queue = self.queues.get_mut(from as usize)?;
-        let msg = queue.pop_front();
+        let msg = pop_first(queue);
         if queue.is_empty() {
             self.senders.remove(from);
         }
@@ -194,6 +194,19 @@ impl Pending {
             Some(inbox) => inbox.senders(),
             None => &self.no_senders,
         }
+    }
+}
+
+/// Takes the first of a list of messages. One that is alone is taken from the back, so that the next one comes to its place in
+/// the memory of the host, which the processor has at hand.
+fn pop_first(queue: &mut VecDeque<Msg>) -> Option<Msg>
+    ensures message { result ≡ first_of queue.old.items }
+    ensures rest { queue.new.items ≡ rest_of queue.old.items }
+{
+    if queue.len() == 1 {
+        queue.pop_back()
+    } else {
+        queue.pop_front()
     }
 }
 

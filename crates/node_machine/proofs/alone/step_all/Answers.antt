@@ -16,7 +16,7 @@ returns-clause-stepped c =
     let inboxes : c.post.new.pending.inboxes ≡ with_messages c.args.id c.step_on.new.out.items c.args.pending.now.inboxes = search rules in
     let noted : c.post.new.pending.steps ≡ slice_set c.args.pending.now.steps c.args.id (can_step c.step_on.new.self) = search rules in
     steps_done c.args.world.now c.args.id c.args.most c.in_ok-count.count c.index_mut-node.result.now c.step_on.new.self c.args.nodes.now.items _ c.args.pending.now c.post.new.pending
-    c.step_on.new.out.items at refl steps.0 steps.1 steps.2 steps.3 c.requires.steps inboxes noted
+    c.step_on.new.out.items at refl steps c.requires.steps inboxes noted
 
 pub returns-clause-nodes : goal.returns-clause-nodes
 returns-clause-nodes c =

@@ -51,5 +51,5 @@ returns-clause-fits c =
       nodes = nodes;
       fits = search rules;
       inboxes = search rules;
-      made = ap length c.count_event.ensures.made ∙ length-set c.self.inside.made.items _ _ ∙ made_before;
+      made = ap length c.count_events.ensures.made ∙ length-set c.self.inside.made.items _ _ ∙ made_before;
     }

@@ -1,7 +1,7 @@
 use Rattle.std.proofs.Common.{◌≡◌, length}
 use Rattle.std.specs.Vec.Iter.{drain_items}
 use Rattle.node_machine.specs.Pending.{with_messages, AreInboxes}
-use Rattle.node_machine.proofs.making.post.Given as goal
+use Rattle.node_machine.proofs.making.post_each.Given as goal
 
 -- the messages so far have joined the lists: those that are left make what all of them make
 abbrev pub invariant-loop-to : goal.invariant-loop-to
