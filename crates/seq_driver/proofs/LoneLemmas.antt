@@ -1,18 +1,20 @@
 -- While one node alone can act, and its steps send nothing, the stream draws these steps, whatever its words are.
-use Rattle.std.proofs.Common.{◌≡◌, ℕ, zero, suc, ◌+◌, ◌%◌, ◌<◌, ◌≤◌, Bool, true, false, List, [], ◌∷◌, ◌++◌, length, map, refl, sym, ap, subst, ◌∙◌, arith, inl, inr, eq-eqb, length-append, append-nil}
+use Rattle.std.proofs.Common.{◌≡◌, ℕ, zero, suc, ◌+◌, ◌*◌, ◌%◌, ◌<◌, ◌≤◌, Bool, true, false, List, [], ◌∷◌, ◌++◌, length, map, refl, sym, ap, subst, ◌∙◌, arith, inl, inr, eq-eqb, length-append, append-nil}
 use Rattle.std.proofs.lemmas.List.{append_assoc}
-use Rattle.std.specs.Prelude.{Option, Some, None, Ok, Err, cond, ◌&&◌, ◌||◌, ◌==◌, not, nat_lt, nat_le, filter, slice_get}
+use Rattle.std.specs.Prelude.{Some, None, Ok, Err, cond, ◌||◌, ◌==◌, not, nat_lt, nat_le, slice_get}
 use Rattle.std.specs.List.{range_with_len, list_any}
-use Rattle.std.proofs.lemmas.Bool.{cases_Bool, true≢false}
+use Rattle.std.proofs.lemmas.Bool.{and_parts, true≢false}
 use Rattle.std.proofs.lemmas.Bool.Decides.{nat_tests, eqb_tells}
-use Rattle.rand_pcg.specs.Lcg.{Lcg}
+use Rattle.rand_pcg.specs.Lcg.{Lcg, advance, next as next_lcg}
+use Rattle.rand_pcg.specs.Pcg.{multiplier_64}
+use Rattle.rand_pcg.proofs.LcgLemmas.{advance_zero, advance_more}
 use Rattle.sim_base.specs.Numbering.{node_count, control_node}
 use Rattle.elf_image.specs.Layout.{Setup}
 use Rattle.wire_msg.specs.declared.messages.Msg.{Msg}
 use Rattle.event_journal.specs.declared.events.Event.{Event}
 use Rattle.event_journal.specs.declared.events.Event.TheVariants.{Step, Deliver}
 use Rattle.event_journal.specs.State.{State, is_empty, messages_to, put}
-use Rattle.event_journal.specs.Run.{IsRun, after, happens, can_happen}
+use Rattle.event_journal.specs.Run.{IsRun, happens, can_happen}
 use Rattle.event_journal.specs.Choice.{acting_nodes, can_act, own_step, senders_to}
 use Rattle.event_journal.proofs.Runs.{after-append, run-append}
 use Rattle.node_machine.specs.declared.nodes.Node.{Node}
@@ -31,14 +33,6 @@ use Rattle.seq_driver.specs.Driven.{state_after}
 use Rattle.seq_driver.specs.Inner.{after_draws, IsUnderWay, IsDrawing, IsLone, GoesOn}
 use Rattle.seq_driver.proofs.ChoiceLemmas.{kept_at}
 use Rattle.seq_driver.proofs.DrawLemmas.{drawn_happens, drawn-join, draws-join}
-
-first_of_and : (a b : Bool) → (a && b) ≡ true → a ≡ true
-first_of_and true b e = refl
-first_of_and false b e = cc (e)
-
-last_of_and : (a b : Bool) → (a && b) ≡ true → b ≡ true
-last_of_and true b e = e
-last_of_and false b e = cc (e)
 
 either : {A : Type 0} (b : Bool) (x y z : A) → x ≡ z → y ≡ z → cond b x y ≡ z
 either true x y z e f = e
@@ -92,10 +86,10 @@ module _ (w : Setup) (node : ℕ) where
       room_then : nat_lt (s.made node + 1) w.config.events ≡ true
       room_then =
           ap (λ n. nat_lt n w.config.events) (sym (own s.made node (s.made node + 1)))
-          ∙ first_of_and _ _ (last_of_and (nat_lt node (node_count w.config)) _ can)
+          ∙ (and_parts (nat_lt ((happens (rules w) s (Step node)).made node) w.config.events) _ (and_parts (nat_lt node (node_count w.config)) _ can).1).0
 
       can_then : can_step ((happens (rules w) s (Step node)).node node) ≡ true
-      can_then = last_of_and (nat_lt ((happens (rules w) s (Step node)).made node) w.config.events) _ (last_of_and (nat_lt node (node_count w.config)) _ can)
+      can_then = (and_parts (nat_lt ((happens (rules w) s (Step node)).made node) w.config.events) _ (and_parts (nat_lt node (node_count w.config)) _ can).1).1
 
       acts_same : (k : ℕ) → can_act (rules w) (node_count w.config) (happens (rules w) s (Step node)) k ≡ can_act (rules w) (node_count w.config) s k
       acts_same k = elim (eqb_tells k node) [
@@ -132,7 +126,7 @@ module _ (w : Setup) (node : ℕ) where
           (any_range (λ k. nat_le w.config.events ((happens (rules w) s (Step node)).made k)) (λ k. nat_le w.config.events (s.made k)) 0 (node_count w.config) (λ k low high. full_same k))
 
   can_from : (s : State Node Msg) → can_happen (rules w) (node_count w.config) s (Step node) ≡ true → can_step (s.node node) ≡ true
-  can_from s can = last_of_and (nat_lt (s.made node) w.config.events) _ (last_of_and (nat_lt node (node_count w.config)) _ can)
+  can_from s can = (and_parts (nat_lt (s.made node) w.config.events) _ (and_parts (nat_lt node (node_count w.config)) _ can).1).1
 
   lone_drawn : (n : ℕ) (s : State Node Msg) (g : Lcg) → end_of w s ≡ None → acting_nodes (rules w) (node_count w.config) s ≡ node ∷ []
       → senders_to (node_count w.config) s node ≡ [] → IsRun (rules w) (node_count w.config) s (steps_of node n)
@@ -173,17 +167,24 @@ unfolding steps_of
 no_steps node = refl
 
 -- so many steps so far, one more
-pub noted_more : (g : Lcg) (events : List Event) (node n : ℕ) → (events ++ steps_of node n) ++ Step node ∷ [] ≡ events ++ steps_of node (n + 1)
-noted_more g events node n = append_assoc events (steps_of node n) (Step node ∷ []) ∙ ap (λ xs. events ++ xs) (sym (steps_more node n))
-
-pub passed_more : (g : Lcg) (node n : ℕ) → after_draw (after_draws g (steps_of node n)) ≡ after_draws g (steps_of node (n + 1))
-passed_more g node n = sym (draws-join g (steps_of node n) (Step node ∷ [])) ∙ ap (after_draws g) (sym (steps_more node n))
+pub noted_more : (events : List Event) (node n : ℕ) → (events ++ steps_of node n) ++ Step node ∷ [] ≡ events ++ steps_of node (n + 1)
+noted_more events node n = append_assoc events (steps_of node n) (Step node ∷ []) ∙ ap (λ xs. events ++ xs) (sym (steps_more node n))
 
 pub none_noted : (events : List Event) (node : ℕ) → events ≡ events ++ steps_of node 0
 none_noted events node = sym (ap (λ xs. events ++ xs) (no_steps node) ∙ append-nil events)
 
-pub none_passed : (g : Lcg) (node : ℕ) → g ≡ after_draws g (steps_of node 0)
-none_passed g node = sym (ap (after_draws g) (no_steps node))
+-- to draw once more is to pass two words more
+draw_more : (n : ℕ) (g : Lcg) → advance 64 multiplier_64 (2 * n) (after_draw g) ≡ advance 64 multiplier_64 (2 * suc n) g
+unfolding after_word
+draw_more n g =
+    let more : 2 * n + 1 + 1 ≡ 2 * suc n = omega arith in
+    advance_more 64 multiplier_64 (2 * n) (next_lcg 64 multiplier_64 g) ∙ advance_more 64 multiplier_64 (2 * n + 1) g ∙ ap (λ k. advance 64 multiplier_64 k g) more
+
+-- to draw so many steps is to pass two words for each
+pub draws_are_words : (node n : ℕ) (g : Lcg) → after_draws g (steps_of node n) ≡ advance 64 multiplier_64 (2 * n) g
+unfolding steps_of
+draws_are_words node zero g = sym (advance_zero 64 multiplier_64 g)
+draws_are_words node (suc n) g = draws_are_words node n (after_draw g) ∙ draw_more n g
 
 -- the run goes on by the steps of the only node that can act
 pub steps_go_on : (w : Setup) (core new : CoreData) (g : Lcg) (events : List Event) (node n : ℕ)

@@ -148,10 +148,9 @@ fn note_steps(
     ensures memory { OnErr result (result ≡ Err OutOfMemory) }
 {
     for _ in 0..count {
-        stream.next();
-        stream.next();
         journal.events.push(Event::Step { node })?;
     }
+    stream.pass(node, count);
     Ok(())
 }
 

@@ -1,6 +1,7 @@
-ghost use Rattle.std.specs.Prelude.{◌≡◌, ◌%◌, ◌<◌, None, IfOk, IfSome, false};
+ghost use Rattle.std.specs.Prelude.{◌≡◌, ◌*◌, ◌%◌, ◌<◌, None, IfOk, IfSome, false};
 ghost use Rattle.seq_driver.specs.Picked.{start_stream, next_word, after_word, after_draw, picked};
-ghost use Rattle.seq_driver.specs.Inner.{choices_in, drawn_in, IsLone};
+ghost use Rattle.node_machine.specs.Alone.{steps_of};
+ghost use Rattle.seq_driver.specs.Inner.{choices_in, drawn_in, after_draws, IsLone};
 
 use divisors::Divisors;
 use event_journal::Event;
@@ -49,6 +50,14 @@ impl Stream {
         ensures after { self.new ≡ after_word self.old }
     {
         self.generator.next_word()
+    }
+
+    /// Passes the words that draw so many steps of a node, two each.
+    #[tactic(auto, using(crate::proofs::LoneLemmas::draws_are_words))]
+    pub(crate) fn pass(&mut self, node: NodeId, count: u32)
+        ensures { self.new ≡ after_draws self.old (steps_of node count) }
+    {
+        self.generator.advance(2 * u64::from(count));
     }
 }
 

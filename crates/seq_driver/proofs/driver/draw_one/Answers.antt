@@ -1,5 +1,5 @@
 -- The event that the stream draws is made, or there is none.
-use Rattle.std.proofs.Common.{◌≡◌, ◌<◌, List, [], ◌∷◌, ◌++◌, None, Some, length, sym, subst, arith, length-append, rules}
+use Rattle.std.proofs.Common.{◌≡◌, ◌<◌, [], ◌∷◌, ◌++◌, None, Some, length, sym, subst, arith, length-append, rules}
 use Rattle.std.specs.Prelude.{Ok}
 use Rattle.node_machine.specs.declared.cores.ApplyFault.TheVariants.{NotEnabled}
 use Rattle.node_machine.specs.Core.{Applies}

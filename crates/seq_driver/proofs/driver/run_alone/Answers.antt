@@ -1,5 +1,5 @@
 -- Each turn ends the run, finds it stuck, or makes one event or more.
-use Rattle.std.proofs.Common.{◌≡◌, ◌+◌, ◌*◌, ◌<◌, ◌≤◌, None, Some, length, arith, rules}
+use Rattle.std.proofs.Common.{◌≡◌, ◌+◌, ◌*◌, ◌<◌, ◌≤◌, Some, length, arith, rules}
 use Rattle.sim_base.specs.Numbering.{node_count}
 use Rattle.node_machine.specs.Core.{end_in}
 use Rattle.seq_driver.proofs.DrawLemmas.{ran_at, begins, not_so_many}
