@@ -58,12 +58,18 @@ impl Divisor {
         (product >> 64) as u64
     }
 
-    /// The remainder of a number. Below 2^32 it takes no division.
+    /// The remainder of a number. Below 2^32 it takes no division: the low 64 bits of the product with the reciprocal are
+    /// the quotient's part behind the point, and the number times that part is the remainder.
     #[inline]
-    #[tactic(auto, using(crate::proofs::ReciprocalLemmas::rest_of_quotient))]
+    #[tactic(auto, using(crate::proofs::ReciprocalLemmas::remainder_is))]
     pub fn remainder(&self, value: u64) -> u64
         ensures { result ≡ value % self.now }
     {
-        value - self.quotient(value) * u64::from(self.number)
+        if value > u64::from(u32::MAX) {
+            return value % u64::from(self.number);
+        }
+        let part = value.wrapping_mul(self.reciprocal);
+        let product = u128::from(part) * u128::from(self.number);
+        (product >> 64) as u64
     }
 }
