@@ -44,6 +44,18 @@ side_is_least c k low room =
 within_square : (n : ℕ) → 1 ≤ n → n ≤ n * n
 within_square n h = grind arith
 
+-- the side is the number whose square has room for the tiles, where the square of the one below it has not
+pub side_is : (c : Config) (k : ℕ) → (k - 1) * (k - 1) < c.tiles → c.tiles ≤ k * k → k ≡ side c
+side_is c k narrow room =
+    let near : k ≤ c.tiles = elim (cases_lt k 2) [ inl l ↦ omega arith | inr g ↦ omega (arith, within_square (k - 1) (omega arith)) ] in
+    let least : (c.tiles ≤ side c * side c) × (side c ≤ k) = side_is_least c k near room in
+    elim (cases_lt (side c) k) [
+      | inl l ↦
+          let few : side c * side c ≤ (k - 1) * (k - 1) = mul-le (side c) (side c) (k - 1) (k - 1) (omega arith) (omega arith) in
+          absurd (omega (arith, least.0))
+      | inr g ↦ omega (arith, least.1)
+    ]
+
 -- the square has room for the tiles, and 8 by 8 are the most
 pub record IsSide (c : Config) : Type 0 where
   pub room : c.tiles ≤ side c * side c

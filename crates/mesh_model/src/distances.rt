@@ -1,4 +1,4 @@
-ghost use Rattle.std.specs.Prelude.{◌≡◌, ◌*◌, ◌/◌, ◌%◌, ◌<◌, ◌≤◌};
+ghost use Rattle.std.specs.Prelude.{◌≡◌, ◌-◌, ◌*◌, ◌/◌, ◌%◌, ◌<◌, ◌≤◌};
 ghost use Rattle.sim_base.specs.Numbering.{node_count};
 ghost use Rattle.sim_base.specs.Settings.{IsChecked};
 ghost use Rattle.mesh_model.specs.Mesh.{side, hops_between, diameter};
@@ -52,14 +52,49 @@ pub fn diameter(config: &Config) -> u64
     2 * (side(config) - 1)
 }
 
-/// The side of the mesh: the least whose square has room for all tiles.
-#[tactic(auto, unfolding(crate::specs::Mesh::side))]
+/// The side of the mesh: the least whose square has room for all tiles. Up to 64 tiles it takes no search.
+#[inline]
+#[tactic(auto, using(crate::proofs::Bounds::side_is, crate::proofs::Bounds::side_bounds))]
 fn side(config: &Config) -> u64
     requires { IsChecked config.now }
     ensures value { result ≡ side config.now }
     ensures room { config.now.tiles ≤ result * result }
     ensures some { 1 ≤ result }
     ensures few { result ≤ 8 }
+{
+    let tiles = config.tiles as u64;
+    if tiles <= 64 {
+        side_of_few(tiles)
+    } else {
+        side_of_any(config)
+    }
+}
+
+/// The side of a mesh of at most 64 tiles: the least whose square has room for them.
+#[inline]
+fn side_of_few(tiles: u64) -> u64
+    requires some { 1 ≤ tiles }
+    requires few { tiles ≤ 64 }
+    ensures room { tiles ≤ result * result }
+    ensures least { (result - 1) * (result - 1) < tiles }
+{
+    match tiles {
+        0..=1 => 1,
+        2..=4 => 2,
+        5..=9 => 3,
+        10..=16 => 4,
+        17..=25 => 5,
+        26..=36 => 6,
+        37..=49 => 7,
+        _ => 8,
+    }
+}
+
+/// The side of a mesh of any number of tiles, found by trying one side after the other.
+#[inline(never)]
+#[tactic(auto, unfolding(crate::specs::Mesh::side))]
+fn side_of_any(config: &Config) -> u64
+    ensures { result ≡ side config.now }
 {
     let tiles = config.tiles as u64;
     (0..tiles + 1).find(|w| tiles <= w * w).unwrap_or(0)
