@@ -8,9 +8,14 @@ pub(crate) fn bit_at_place(word: u64, place: usize) -> u8
     ensures bit { slice_get (bits 64 0 word) place ≡ Some result }
     ensures within { result < 64 }
 {
+    // The word has a bit, but the compiler doesn't know that, and so not how often the loop runs either. It leaves the loop
+    // as it is then: of an unrolled one a processor guesses two ends wrong where the place is drawn.
+    let one = usize::from(word != 0);
     let mut rest = word;
-    for _ in 0..place {
+    let mut left = place;
+    while left > 0 {
         rest &= rest.wrapping_sub(1);
+        left -= one;
     }
     rest.trailing_zeros() as u8
 }
