@@ -164,6 +164,7 @@ fn store_to(op: Op, addr: u64, value: u64) -> Meaning
 
 /// An atomic on the bytes at `addr`, with `value` as its own number, to `rd`, below 32; a trap where `addr`
 /// isn't a multiple of its size.
+#[inline(always)]
 fn atomic_at(op: Op, wide: bool, rd: u8, addr: u64, value: u64) -> Meaning
     requires atomic { IsTrue (is_atomic op) }
     requires register { rd < 32 }
