@@ -1,3 +1,4 @@
+pub mod Costs
 pub mod Decoded
 pub mod File
 pub mod Header

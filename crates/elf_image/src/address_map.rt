@@ -4,12 +4,15 @@ ghost use Rattle.std.specs.Option.{option_copied};
 ghost use Rattle.rv_decode.specs.Valid.{IsValid};
 ghost use Rattle.elf_image.specs.Image.{IsSegment, IsProgram};
 ghost use Rattle.elf_image.specs.Layout.{layout_of, IsLaidOut, stack_end, last_end, round_up, is_heap, is_stack, is_free, AreFree, is_readable, is_writable, has_right, may, start_byte, initial_line, fetch, instruction};
+ghost use Rattle.elf_image.specs.Costs.{place_of, costs_of};
 ghost use Rattle.sim_base.specs.Settings.{IsChecked};
+ghost use Rattle.mesh_model.specs.Cost.{cost_of};
 
 use crate::program::{Image, Segment};
 use divisors::Divisor;
+use mesh_model::cost;
 use rv_decode::Instr;
-use sim_base::{Config, Line, LineData, NodeId};
+use sim_base::{Config, CostClass, Line, LineData, NodeId};
 use std::marker::Model;
 
 /// How many bytes lie between the heap window and the first stack, and from a stack to the next, and what the
@@ -54,10 +57,12 @@ pub struct World {
     config: Config,
     layout: Layout,
     stride: Divisor,
+    costs: [u64; 6],
 }
 
 impl Model for World {
     ghost use Rattle.std.specs.Prelude.{◌≡◌, ◌+◌};
+    ghost use Rattle.elf_image.specs.Costs.{costs_of};
     ghost use Rattle.elf_image.specs.Layout.{Setup, IsLaidOut};
 
     ghost Value = { Setup };
@@ -65,7 +70,7 @@ impl Model for World {
     ghost view = { λ w. record { image = w.image; config = w.config } };
 
     ghost invariant = { λ w.
-        IsLaidOut (record { image = w.image; config = w.config }) w.layout × (w.stride ≡ w.config.stack_bytes + 4096) };
+        IsLaidOut (record { image = w.image; config = w.config }) w.layout × (w.stride ≡ w.config.stack_bytes + 4096) × (w.costs ≡ costs_of w.config) };
 }
 
 impl World {
@@ -76,11 +81,13 @@ impl World {
     {
         let layout = layout_for(&image, &config);
         let stride = stride_of(&config);
+        let costs = costs_of(&config);
         World {
             image,
             config,
             layout,
             stride,
+            costs,
         }
     }
 
@@ -108,6 +115,14 @@ impl World {
         ensures checked { IsChecked self.now.config }
     {
         &self.config
+    }
+
+    /// How many cycles an instruction of a class takes under the settings, beside the delay of a miss.
+    #[inline(always)]
+    pub fn cost(&self, class: CostClass) -> u64
+        ensures { result ≡ cost_of self.now.config class }
+    {
+        self.costs[place_of(class)]
     }
 
     /// Where the heap window and the stacks lie.
@@ -279,6 +294,38 @@ fn stride_of(config: &Config) -> Divisor
     ensures { result ≡ config.now.stack_bytes + 4096 }
 {
     Divisor::new((config.stack_bytes + PAGE) as u32)
+}
+
+/// What an instruction of each class costs, in cycles, by the classes' places.
+#[tactic(auto, unfolding(crate::specs::Costs::costs_of))]
+fn costs_of(config: &Config) -> [u64; 6]
+    requires { IsChecked config.now }
+    ensures { result ≡ costs_of config.now }
+{
+    [
+        cost(config, CostClass::Alu),
+        cost(config, CostClass::Mul),
+        cost(config, CostClass::Div),
+        cost(config, CostClass::Mem),
+        cost(config, CostClass::Amo),
+        cost(config, CostClass::Call),
+    ]
+}
+
+/// The place of a class among the costs.
+#[inline(always)]
+fn place_of(class: CostClass) -> usize
+    ensures value { result ≡ place_of class }
+    ensures low { result < 6 }
+{
+    match class {
+        CostClass::Alu => 0,
+        CostClass::Mul => 1,
+        CostClass::Div => 2,
+        CostClass::Mem => 3,
+        CostClass::Amo => 4,
+        CostClass::Call => 5,
+    }
 }
 
 /// The layout of a program under these settings.
