@@ -182,7 +182,7 @@ impl World {
     /// The instruction at an address, lent: that of the word that [`World::fetch`] gives there, decoded when the
     /// image was made. None where the address can't be fetched from, isn't a multiple of 4, as every pc of a run
     /// is, or the word has no row.
-    #[inline]
+    #[inline(always)]
     pub fn instruction(&self, pc: u64) -> Option<&Instr>
         ensures value { option_copied result ≡ instruction self.now pc }
         ensures valid { IfSome result (λ instr. IsValid instr.now) }
@@ -191,8 +191,20 @@ impl World {
     }
 
     /// Whether each of the `size` bytes from `addr` has a right. A range that passes 2^64 has none.
-    #[inline]
+    #[inline(always)]
     pub fn may(&self, addr: u64, size: u64, right: Right) -> bool
+        ensures { result ≡ may self.now addr size right }
+    {
+        if size <= self.free_from(addr) {
+            return true;
+        }
+        self.may_in_segments(addr, size, right)
+    }
+
+    /// What [`World::may`] says of a range that isn't all in the heap window or on one stack: by the segments, and byte
+    /// by byte where not one of them grants it all.
+    #[inline(never)]
+    fn may_in_segments(&self, addr: u64, size: u64, right: Right) -> bool
         ensures { result ≡ may self.now addr size right }
     {
         // The layout's bounds say that nothing is mapped near 2^64.
@@ -200,9 +212,6 @@ impl World {
         let Some(end) = addr.checked_add(size) else {
             return false;
         };
-        if size <= self.free_from(addr) {
-            return true;
-        }
         if self.image.grants_range(addr, size, right) {
             return true;
         }
@@ -242,6 +251,7 @@ impl World {
     }
 
     /// Whether an address lies in the heap window.
+    #[inline(always)]
     fn is_heap(&self, address: u64) -> bool
         ensures { result ≡ is_heap self.now address }
     {
@@ -256,7 +266,7 @@ impl World {
     }
 
     /// So many bytes from an address on lie in the heap window or on one stack, where each may be read and written.
-    #[inline]
+    #[inline(always)]
     fn free_from(&self, address: u64) -> u64
         ensures { AreFree self.now address result }
     {
@@ -268,7 +278,7 @@ impl World {
     }
 
     /// So many bytes from an address on are left on its stack; none where it lies on no stack.
-    #[inline]
+    #[inline(always)]
     fn left_on_stack(&self, address: u64) -> u64
         ensures on { nat_lt 0 result ≡ is_stack self.now address }
         ensures free { AreFree self.now address result }

@@ -48,7 +48,7 @@ impl Decoded {
 
     /// Lends the row at a multiple of 4.
     #[tactic(auto, unfolding(crate::specs::Decoded::found_in))]
-    #[inline]
+    #[inline(always)]
     pub fn instruction(&self, pc: u64) -> Option<&Instr>
         ensures { option_copied result ≡ found_in self.now pc }
     {
@@ -71,9 +71,21 @@ pub fn decode_all(alloc: Global, segments: &[Segment]) -> Result<Vec<Decoded>, N
     Ok(tables)
 }
 
-/// Lends the first row at a multiple of 4.
-#[inline]
+/// Lends the first row at a multiple of 4. A hit in the first table takes no call.
+#[inline(always)]
 pub fn first_found(tables: &[Decoded], pc: u64) -> Option<&Instr>
+    ensures { option_copied result ≡ first_found tables.now pc }
+{
+    let (table, rest) = tables.split_first()?;
+    if let Some(instr) = table.instruction(pc) {
+        return Some(instr);
+    }
+    found_later(rest, pc)
+}
+
+/// Lends the first row at a multiple of 4, by a search of the tables one after the other.
+#[inline(never)]
+fn found_later(tables: &[Decoded], pc: u64) -> Option<&Instr>
     ensures { option_copied result ≡ first_found tables.now pc }
 {
     for table in tables {

@@ -237,7 +237,7 @@ impl Image {
     /// Lends the instruction at an address, if one executable segment has its four bytes and the word has a row.
     /// An address that isn't a multiple of 4 has none.
     #[tactic(auto, unfolding(crate::specs::Decoded::program_row))]
-    #[inline]
+    #[inline(always)]
     pub(crate) fn instruction(&self, pc: u64) -> Option<&Instr>
         ensures value { option_copied result ≡ program_row self.now pc }
     {

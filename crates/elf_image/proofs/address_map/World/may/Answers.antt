@@ -1,21 +1,8 @@
-use Rattle.std.proofs.Common.{◌+◌, ◌^◌, ◌≤◌, ◌<◌, ◌∙◌, sym, arith}
-use Rattle.elf_image.proofs.Grants.{range_granted}
-use Rattle.elf_image.proofs.Ranges.{passes_none}
+use Rattle.std.proofs.Common.{sym}
 use Rattle.elf_image.proofs.Stacks.{granted_all, fewer_free}
 use Rattle.elf_image.proofs.address_map.World.may.Goals as goal
-
-pub returns-in_default : goal.returns-in_default
-returns-in_default c =
-    let inside : c.args.addr < 2 ^ 64 = omega arith in
-    let passes : 2 ^ 64 ≤ c.args.addr + c.args.size = omega arith in
-    sym (rw (← c.self.view_is) (passes_none _ _ c.args.right c.args.addr c.args.size c.self.invariant.0 inside passes))
 
 pub returns-then-size-free_from : goal.returns-then-size-free_from
 returns-then-size-free_from c =
     sym (granted_all c.args.self.now c.args.right c.args.addr c.args.size
     (fewer_free c.args.self.now c.args.addr c.args.size c.free_from.result c.if-size-free_from.true c.free_from.ensures))
-
-pub returns-then-grants_range : goal.returns-then-grants_range
-returns-then-grants_range c =
-    sym (rw (← c.self.view_is) (range_granted (record { image = c.self.inside.image; config = c.self.inside.config }) c.args.right c.args.addr c.args.size
-    (sym c.grants_range.ensures ∙ c.if-grants_range.true)))

@@ -1,6 +1,6 @@
 use Rattle.std.proofs.Common.{◌≡◌, drop}
 use Rattle.elf_image.specs.Decoded.{first_found}
-use Rattle.elf_image.proofs.decoded.first_found.Given as goal
+use Rattle.elf_image.proofs.decoded.found_later.Given as goal
 
 -- none so far has a row there
 abbrev pub invariant-loop-table : goal.invariant-loop-table
