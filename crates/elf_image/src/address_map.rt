@@ -8,6 +8,7 @@ ghost use Rattle.elf_image.specs.Costs.{place_of, costs_of};
 ghost use Rattle.sim_base.specs.Settings.{IsChecked};
 ghost use Rattle.mesh_model.specs.Cost.{cost_of};
 
+use crate::listed::Listed;
 use crate::program::{Image, Segment};
 use divisors::Divisor;
 use mesh_model::cost;
@@ -187,7 +188,16 @@ impl World {
         ensures value { option_copied result ≡ instruction self.now pc }
         ensures valid { IfSome result (λ instr. IsValid instr.now) }
     {
-        self.image.instruction(pc)
+        Some(self.listed(pc)?.instr())
+    }
+
+    /// The instruction at an address with its class, lent: that of [`World::instruction`].
+    #[inline(always)]
+    pub fn listed(&self, pc: u64) -> Option<&Listed>
+        ensures value { option_copied result ≡ instruction self.now pc }
+        ensures valid { IfSome result (λ listed. IsValid listed.now) }
+    {
+        self.image.listed(pc)
     }
 
     /// Whether each of the `size` bytes from `addr` has a right. A range that passes 2^64 has none.

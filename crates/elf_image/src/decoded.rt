@@ -3,8 +3,8 @@ ghost use Rattle.std.specs.Option.{option_copied};
 ghost use Rattle.elf_image.specs.Image.{IsSegment, grants_execute};
 ghost use Rattle.elf_image.specs.Decoded.{decoded_of, found_in, first_found};
 
+use crate::listed::Listed;
 use crate::program::Segment;
-use rv_decode::Instr;
 use sim_base::NoMemory;
 use std::alloc::Global;
 use std::marker::Model;
@@ -12,13 +12,13 @@ use std::marker::Model;
 /// How many bytes an instruction word has.
 const WORD: u64 = 4;
 
-/// The instructions of an executable segment, decoded once: one row for each multiple of 4 from the segment's
-/// start to the end of its bytes, and none where the word has no row. The words past the bytes are 0, which is
-/// no instruction.
+/// The instructions of an executable segment, decoded once and each with its class: one row for each multiple of 4
+/// from the segment's start to the end of its bytes, and none where the word has no row. The words past the bytes
+/// are 0, which is no instruction.
 #[derive(Drop)]
 pub struct Decoded {
     first: u64,
-    rows: Vec<Option<Instr>>,
+    rows: Vec<Option<Listed>>,
 }
 
 impl Model for Decoded {
@@ -41,7 +41,7 @@ impl Decoded {
         let count = end.saturating_sub(first).div_ceil(WORD);
         let mut rows = Vec::with_capacity(alloc, count as usize)?;
         for place in 0..count {
-            rows.push(segment.instruction_at(first + WORD * place))?;
+            rows.push(segment.listed_at(first + WORD * place))?;
         }
         Ok(Decoded { first, rows })
     }
@@ -49,7 +49,7 @@ impl Decoded {
     /// Lends the row at a multiple of 4.
     #[tactic(auto, unfolding(crate::specs::Decoded::found_in))]
     #[inline(always)]
-    pub fn instruction(&self, pc: u64) -> Option<&Instr>
+    pub fn listed(&self, pc: u64) -> Option<&Listed>
         ensures { option_copied result ≡ found_in self.now pc }
     {
         let place = pc.checked_sub(self.first)? / WORD;
@@ -73,24 +73,24 @@ pub fn decode_all(alloc: Global, segments: &[Segment]) -> Result<Vec<Decoded>, N
 
 /// Lends the first row at a multiple of 4. A hit in the first table takes no call.
 #[inline(always)]
-pub fn first_found(tables: &[Decoded], pc: u64) -> Option<&Instr>
+pub fn first_found(tables: &[Decoded], pc: u64) -> Option<&Listed>
     ensures { option_copied result ≡ first_found tables.now pc }
 {
     let (table, rest) = tables.split_first()?;
-    if let Some(instr) = table.instruction(pc) {
-        return Some(instr);
+    if let Some(listed) = table.listed(pc) {
+        return Some(listed);
     }
     found_later(rest, pc)
 }
 
 /// Lends the first row at a multiple of 4, by a search of the tables one after the other.
 #[inline(never)]
-fn found_later(tables: &[Decoded], pc: u64) -> Option<&Instr>
+fn found_later(tables: &[Decoded], pc: u64) -> Option<&Listed>
     ensures { option_copied result ≡ first_found tables.now pc }
 {
     for table in tables {
-        if let Some(instr) = table.instruction(pc) {
-            return Some(instr);
+        if let Some(listed) = table.listed(pc) {
+            return Some(listed);
         }
     }
     None

@@ -9,6 +9,7 @@ ghost use Rattle.elf_image.specs.Image.{holds, segment_end, share_byte, grants_e
 
 use crate::address_map::Right;
 use crate::decoded::{Decoded, decode_all, first_found};
+use crate::listed::Listed;
 use byteorder::{ByteOrder, LittleEndian};
 use rv_decode::{Instr, decode};
 use sim_base::{Bytes, NoMemory};
@@ -114,6 +115,14 @@ impl Segment {
             return None;
         }
         decode(self.word_at(address))
+    }
+
+    /// The instruction at an address with its class, if the segment has its four bytes and the word has a row.
+    pub(crate) fn listed_at(&self, address: u64) -> Option<Listed>
+        requires { address + 4 ≤ 2 ^ 64 }
+        ensures { result ≡ row_at self.now address }
+    {
+        Some(Listed::of(self.instruction_at(address)?))
     }
 
     /// Whether its bytes may be executed.
@@ -234,11 +243,11 @@ impl Image {
         self.segments.iter().find(|segment| segment.is_executable() && segment.holds_word(address))
     }
 
-    /// Lends the instruction at an address, if one executable segment has its four bytes and the word has a row.
-    /// An address that isn't a multiple of 4 has none.
+    /// Lends the instruction at an address with its class, if one executable segment has its four bytes and the word
+    /// has a row. An address that isn't a multiple of 4 has none.
     #[tactic(auto, unfolding(crate::specs::Decoded::program_row))]
     #[inline(always)]
-    pub(crate) fn instruction(&self, pc: u64) -> Option<&Instr>
+    pub(crate) fn listed(&self, pc: u64) -> Option<&Listed>
         ensures value { option_copied result ≡ program_row self.now pc }
     {
         if pc % 4 != 0 {

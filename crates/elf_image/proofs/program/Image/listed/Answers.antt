@@ -1,6 +1,6 @@
 use Rattle.std.proofs.Common.{◌%◌, ◌≡◌, ◌∙◌, arith}
 use Rattle.elf_image.proofs.Lookup.{program_found}
-use Rattle.elf_image.proofs.program.Image.instruction.Goals as goal
+use Rattle.elf_image.proofs.program.Image.listed.Goals as goal
 
 pub returns : goal.returns
 returns c =
