@@ -298,8 +298,9 @@ impl World {
             return 0;
         }
         let stack = self.config.stack_bytes;
-        let tile = self.stride.quotient(address - base);
-        let place = self.stride.remainder(address - base);
+        let past = address - base;
+        let tile = self.stride.quotient(past);
+        let place = past - tile * u64::from(self.stride.number());
         if tile < self.config.tiles as u64 && place < stack {
             stack - place
         } else {
