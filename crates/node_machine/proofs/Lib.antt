@@ -5,6 +5,7 @@ pub mod MailLemmas
 pub mod MadeLemmas
 pub mod ApplyLemmas
 pub mod PendingLemmas
+pub mod MailboxLemmas
 mod TrappingWords
 mod TrappingTiles
 mod TrappingServers

@@ -1,13 +1,11 @@
 -- Who waits and who can act, after one list of messages or one node has changed.
-use Rattle.std.proofs.Common.{◌≡◌, ℕ, ◌<◌, Bool, true, false, cond, List, [], ◌∷◌, ◌++◌, length, get_or, set, map, replicate, Global, deque_len, Result, Ok, Err, refl, sym, ap, ◌∙◌, subst, arith, inl, inr, if◌then◌else◌}
-use Rattle.std.specs.Prelude.{not, ◌==◌, ◌||◌, nat_lt, OnErr, filter}
+use Rattle.std.proofs.Common.{◌≡◌, ℕ, ◌<◌, Bool, true, false, cond, List, [], ◌∷◌, ◌++◌, length, get_or, set, replicate, refl, sym, ap, ◌∙◌, subst, arith, inl, inr, if◌then◌else◌}
+use Rattle.std.specs.Prelude.{not, ◌==◌, ◌||◌, nat_lt, filter}
 use Rattle.std.specs.List.{range_with_len}
 use Rattle.std.proofs.lemmas.Bool.{cases_lt, cases_Bool, eqb-true, eqb-false, false≢true}
-use Rattle.std.proofs.lemmas.List.{length-set, get_or-set_same, get_or-set_other, get_or-replicate, get_or_past, length-replicate, get_or-map, map-set, set-get_or}
+use Rattle.std.proofs.lemmas.List.{length-set, get_or-set_same, get_or-set_other, get_or-replicate, get_or_past, length-replicate}
 use Rattle.std.proofs.lemmas.List.Elements.{filter_agree}
 use Rattle.event_journal.specs.State.{is_empty}
-use Rattle.event_journal.proofs.Queues.{is_empty-length}
-use Rattle.std.specs.declared.collections.VecDeque.{VecDeque}
 use Rattle.wire_msg.specs.declared.messages.Msg.{Msg}
 use Rattle.node_set.specs.NodeSet.{with_node, without}
 use Rattle.node_machine.specs.Pending.{Inbox, PendingData, queue_from, senders_in, with_queue_from, inbox_of, can_act_in, acting_in, rest_of}
@@ -62,47 +60,10 @@ senders_none count = nothing (λ i. not (is_empty (queue_from (replicate count [
   | inr l ↦ ap (λ queue. not (is_empty queue)) (get_or_past (replicate count []) i [] (omega (arith, length-replicate {A = List Msg} count [])))
 ])
 
--- what holds either way holds on a failure
-pub on_err : {T E : Type 0} {P : Type 0} (r : Result T E) → P → OnErr r P
-on_err (Ok x) h = tt
-on_err (Err e) h = h
-
--- The queues of an inbox
-
--- the messages in a queue
-abbrev pub items_of : VecDeque Msg Global → List Msg
-items_of queue = queue.items
-
--- what is read at a place
-pub queue_read : (queues : List (VecDeque Msg Global)) (from : ℕ) (queue : VecDeque Msg Global) → from < length queues → queue ≡ get_or queues from queue → queue.items ≡ queue_from (map items_of queues) from
-queue_read queues from queue l h = ap items_of h ∙ sym (get_or-map items_of queues from queue [] l)
-
--- what is written at a place
-pub queue_written : (queues : List (VecDeque Msg Global)) (from : ℕ) (queue : VecDeque Msg Global) (messages : List Msg) → queue.items ≡ messages → map items_of (set queues from queue) ≡ with_queue_from (map items_of queues) from messages
-queue_written queues from queue messages h = map-set items_of queues from queue ∙ ap (with_queue_from (map items_of queues) from) h
-
--- a write that puts a message behind the others
-pub queue_pushed : (queues : List (VecDeque Msg Global)) (from : ℕ) (old new : VecDeque Msg Global) (msg : Msg) → from < length queues → old ≡ get_or queues from old → new.items ≡ old.items ++ msg ∷ [] → map items_of (set queues from new) ≡ with_queue_from (map items_of queues) from (queue_from (map items_of queues) from ++ msg ∷ [])
-queue_pushed queues from old new msg l read pushed =
-    queue_written queues from new (queue_from (map items_of queues) from ++ msg ∷ []) (pushed ∙ ap (λ messages. messages ++ msg ∷ []) (queue_read queues from old l read))
-
--- a write that changes no message
-pub queue_kept : (queues : List (VecDeque Msg Global)) (from : ℕ) (old new : VecDeque Msg Global) → from < length queues → old ≡ get_or queues from old → new.items ≡ old.items → map items_of (set queues from new) ≡ map items_of queues
-queue_kept queues from old new l read same =
-    queue_written queues from new (queue_from (map items_of queues) from) (same ∙ queue_read queues from old l read) ∙ set-get_or (map items_of queues) from []
-
 -- with a message behind the others a list has a message
 pub pushed_some : (messages : List Msg) (msg : Msg) → is_empty (messages ++ msg ∷ []) ≡ false
 pushed_some [] msg = refl
 pushed_some (first ∷ rest) msg = refl
-
--- what a queue keeps without its first message
-pub queue_rest : (queues : List (VecDeque Msg Global)) (from : ℕ) (old new : VecDeque Msg Global) → from < length queues → old ≡ get_or queues from old → new.items ≡ rest_of old.items → new.items ≡ rest_of (queue_from (map items_of queues) from)
-queue_rest queues from old new l read rest = rest ∙ ap rest_of (queue_read queues from old l read)
-
--- a queue is empty as its length tells
-pub queue_empty : (queue : VecDeque Msg Global) → is_empty queue.items ≡ (deque_len queue == 0)
-queue_empty queue = is_empty-length queue.items ∙ ap (λ n. n == 0) (sym queue.ok.0)
 
 -- where messages stay there were messages
 pub rest_some : (messages : List Msg) → is_empty (rest_of messages) ≡ false → is_empty (rest_of messages) ≡ is_empty messages

@@ -1,4 +1,5 @@
 pub mod Pending
+pub mod Mailbox
 pub mod Machine
 pub mod Commits
 pub mod Reading

@@ -1,31 +1,40 @@
-ghost use Rattle.std.specs.Prelude.{◌≡◌, ◌<◌, ◌++◌, ◌∷◌, [], not, length, replicate, slice_set, slice_index_or, IfOk, OnOk, OnErr, false, if◌then◌else◌};
+ghost use Rattle.std.specs.Prelude.{◌≡◌, ◌<◌, ◌++◌, ◌∷◌, [], not, length, replicate, position, remove, slice_get, slice_set, slice_index_or, IfOk, OnOk, OnErr, false, if◌then◌else◌};
+ghost use Rattle.std.specs.Option.{option_map};
 ghost use Rattle.event_journal.specs.State.{is_empty};
 ghost use Rattle.node_set.specs.NodeSet.{with_node, without};
 ghost use Rattle.node_machine.specs.Pending.{queue_from, senders_in, with_queue_from, inbox_of, queue_in, can_act_in, acting_in, nothing_pending, with_message, first_of, rest_of, with_rest};
+ghost use Rattle.node_machine.specs.Mailbox.{is_from};
 
 use node_set::NodeSet;
 use sim_base::{NoMemory, NodeId};
 use std::alloc::Global;
-use std::collections::VecDeque;
 use std::marker::Model;
 use wire_msg::Msg;
 
-/// The messages that wait for one node, which contracts see as a list for each sender.
+/// A message that waits, with its sender.
+#[derive(Drop)]
+struct Mail {
+    from: NodeId,
+    msg: Msg,
+}
+
+/// The messages that wait for one node, in the order in which they came. Contracts see them as a list for each sender.
 #[derive(Drop)]
 pub(crate) struct Inbox {
-    queues: Vec<VecDeque<Msg>>,
+    count: usize,
+    mail: Vec<Mail>,
     senders: NodeSet,
 }
 
 impl Model for Inbox {
-    ghost use Rattle.std.specs.Prelude.{◌≡◌, map};
-    ghost use Rattle.node_machine.specs.Pending.{Inbox, senders_in};
+    ghost use Rattle.node_machine.specs.Pending.{Inbox};
+    ghost use Rattle.node_machine.specs.Mailbox.{lists_from, IsMailbox};
 
     ghost Value = { Inbox };
 
-    ghost view = { λ i. map (λ queue. queue.items) i.queues.items };
+    ghost view = { λ i. lists_from i.mail.items i.count };
 
-    ghost invariant = { λ i. i.senders ≡ senders_in (map (λ queue. queue.items) i.queues.items) };
+    ghost invariant = { λ i. IsMailbox i.count i.mail.items i.senders };
 }
 
 impl Inbox {
@@ -33,49 +42,51 @@ impl Inbox {
     pub(crate) fn new(alloc: Global, count: usize) -> Result<Inbox, NoMemory>
         ensures { IfOk result (λ inbox. inbox ≡ replicate count []) }
     {
-        let mut queues = Vec::with_capacity(alloc, count)?;
-        for _ in 0..count {
-            queues.push(VecDeque::new(alloc))?;
-        }
+        let mail = Vec::new(alloc);
         let senders = NodeSet::new();
-        Ok(Inbox { queues, senders })
+        Ok(Inbox {
+            count,
+            mail,
+            senders,
+        })
     }
 
     /// A message from a sender, who is one of them, waits behind the others. Where memory runs out nothing changes.
+    #[inline]
     pub(crate) fn push(&mut self, from: NodeId, msg: Msg) -> Result<(), NoMemory>
         requires { from < length self.old }
         ensures ok { OnOk result (self.new ≡ with_queue_from self.old from (queue_from self.old from ++ msg ∷ [])) }
         ensures err { OnErr result (self.new ≡ self.old) }
     {
-        self.queues[from as usize].push_back(msg)?;
+        self.mail.push(Mail { from, msg })?;
         self.senders.insert(from);
         Ok(())
     }
 
     /// Takes the first message of a sender, where one waits.
+    #[inline]
     pub(crate) fn pop(&mut self, from: NodeId) -> Option<Msg>
         ensures message { result ≡ first_of (queue_from self.old from) }
         ensures rest { self.new ≡ with_queue_from self.old from (rest_of (queue_from self.old from)) }
     {
-        let queue = self.queues.get_mut(from as usize)?;
-        let msg = pop_first(queue);
-        if queue.is_empty() {
+        let place = place_of(&self.mail, from)?;
+        let msg = take_at(&mut self.mail, place);
+        if place_of(&self.mail, from).is_none() {
             self.senders.remove(from);
         }
         msg
     }
 
     /// Whether a message of a sender waits.
+    #[inline]
     pub(crate) fn has(&self, from: NodeId) -> bool
         ensures { result ≡ not (is_empty (queue_from self.now from)) }
     {
-        match self.queues.get(from as usize) {
-            Some(queue) => !queue.is_empty(),
-            None => false,
-        }
+        self.senders.contains(from)
     }
 
     /// The senders from whom a message waits, in ascending order.
+    #[inline]
     pub(crate) fn senders(&self) -> &NodeSet
         ensures { result.now ≡ senders_in self.now }
     {
@@ -197,17 +208,27 @@ impl Pending {
     }
 }
 
-/// Takes the first of a list of messages. One that is alone is taken from the back, so that the next one comes to its place in
-/// the memory of the host, which the processor has at hand.
-fn pop_first(queue: &mut VecDeque<Msg>) -> Option<Msg>
-    ensures message { result ≡ first_of queue.old.items }
-    ensures rest { queue.new.items ≡ rest_of queue.old.items }
+/// The place of a sender's first message.
+#[inline]
+fn place_of(mail: &Vec<Mail>, from: NodeId) -> Option<usize>
+    ensures { result ≡ position (is_from from) mail.now.items }
 {
-    if queue.len() == 1 {
-        queue.pop_back()
-    } else {
-        queue.pop_front()
+    mail.iter().position(|one| one.from == from)
+}
+
+/// Takes the message at a place. Those behind it come one place nearer; behind the last there are none.
+#[inline]
+fn take_at(mail: &mut Vec<Mail>, place: usize) -> Option<Msg>
+    requires { place < length mail.old.items }
+    ensures message { result ≡ option_map (λ one. one.msg) (slice_get mail.old.items place) }
+    ensures rest { mail.new.items ≡ remove mail.old.items place }
+{
+    if place + 1 < mail.len() {
+        let Mail { msg, .. } = mail.remove(place);
+        return Some(msg);
     }
+    let Mail { msg, .. } = mail.pop()?;
+    Some(msg)
 }
 
 /// Puts a node into a set, or takes it out.
