@@ -2,8 +2,8 @@
 use Rattle.std.proofs.Common.{◌≡◌, ℕ, ◌<◌, Bool, true, false, cond, List, [], ◌∷◌, ◌++◌, length, get_or, set, replicate, refl, sym, ap, ◌∙◌, subst, arith, inl, inr, if◌then◌else◌}
 use Rattle.std.specs.Prelude.{not, ◌==◌, ◌||◌, nat_lt, filter}
 use Rattle.std.specs.List.{range_with_len}
-use Rattle.std.proofs.lemmas.Bool.{cases_lt, cases_Bool, eqb-true, eqb-false, false≢true}
-use Rattle.std.proofs.lemmas.List.{length-set, get_or-set_same, get_or-set_other, get_or-replicate, get_or_past, length-replicate}
+use Rattle.std.proofs.lemmas.Bool.{cases_lt, cases_Bool, eqb-true, eqb-false, false≢true, not-true}
+use Rattle.std.proofs.lemmas.List.{length-set, get_or-set_same, get_or-set_other, get_or-replicate, get_or_past, length-replicate, set_past}
 use Rattle.std.proofs.lemmas.List.Elements.{filter_agree}
 use Rattle.event_journal.specs.State.{is_empty}
 use Rattle.wire_msg.specs.declared.messages.Msg.{Msg}
@@ -101,6 +101,48 @@ acting_inbox inboxes steps node inbox acts complete is =
     (complete ∙ sym (length-set inboxes node inbox))
     (λ i other. ap (λ one. get_or steps i false || not (is_empty (senders_in one))) (elsewhere inboxes i node inbox [] other))
     is
+
+-- who can act stays the same where a node has another inbox, and can act as it could
+pub acting_kept : (inboxes : List Inbox) (steps : List Bool) (node : ℕ) (inbox : Inbox) → can_act_in (record { inboxes = inboxes; steps = steps }) node ≡ can_act_in (record { inboxes = set inboxes node inbox; steps = steps }) node
+    → acting_in (record { inboxes = inboxes; steps = steps }) ≡ acting_in (record { inboxes = set inboxes node inbox; steps = steps })
+acting_kept inboxes steps node inbox same =
+    let old : PendingData = record { inboxes = inboxes; steps = steps } in
+    let new : PendingData = record { inboxes = set inboxes node inbox; steps = steps } in
+    filter_agree (can_act_in old) (can_act_in new)
+    (λ i. elim (cases_Bool (i == node)) [
+      | inl here ↦ subst (λ (j : ℕ). can_act_in old j ≡ can_act_in new j) (sym (eqb-true i node here)) same
+      | inr other ↦ ap (λ one. get_or steps i false || not (is_empty (senders_in one))) (sym (elsewhere inboxes i node inbox [] other))
+    ]) (range_with_len 0 (length inboxes))
+    ∙ ap (λ n. filter (can_act_in new) (range_with_len 0 n)) (sym (length-set inboxes node inbox))
+
+-- a set that has a node without another has one
+some_before : (node : ℕ) (nodes : List ℕ) → is_empty (without node nodes) ≡ false → is_empty nodes ≡ false
+some_before node [] e = e
+some_before node (first ∷ rest) e = refl
+
+-- for whom a message waits once one was taken, for them one waited before
+awaited_before : (inbox : Inbox) (from : ℕ) → is_empty (senders_in (with_queue_from inbox from (rest_of (queue_from inbox from)))) ≡ false → is_empty (senders_in inbox) ≡ false
+awaited_before inbox from e =
+    let rest = rest_of (queue_from inbox from) in
+    elim (cases_lt from (length inbox)) [
+      | inl l ↦ elim (cases_Bool (is_empty rest)) [
+        | inl none ↦ some_before from (senders_in inbox) (ap is_empty (senders_without inbox from rest l none) ∙ e)
+        | inr some ↦ ap is_empty (senders_same inbox from rest l (rest_some (queue_from inbox from) some)) ∙ e
+      ]
+      | inr l ↦ ap (λ one. is_empty (senders_in one)) (sym (set_past inbox from rest l)) ∙ e
+    ]
+
+-- who can act once a message to it was taken, could act before
+pub acted_before : (inboxes : List Inbox) (steps : List Bool) (to from : ℕ) (inbox : Inbox) → to < length inboxes → inbox ≡ with_queue_from (inbox_of inboxes to) from (rest_of (queue_from (inbox_of inboxes to) from))
+    → can_act_in (record { inboxes = set inboxes to inbox; steps = steps }) to ≡ true → can_act_in (record { inboxes = inboxes; steps = steps }) to ≡ true
+acted_before inboxes steps to from inbox l e acts = elim (cases_Bool (get_or steps to false)) [
+  | inl can ↦ ap (λ step. step || not (is_empty (senders_in (inbox_of inboxes to)))) can
+  | inr cannot ↦
+      let awaited : not (is_empty (senders_in inbox)) ≡ true =
+      sym (ap (λ step. step || not (is_empty (senders_in (inbox_of (set inboxes to inbox) to)))) cannot ∙ ap (λ one. not (is_empty (senders_in one))) (get_or-set_same inboxes to inbox [] l)) ∙ acts in
+      let some : is_empty (senders_in (inbox_of inboxes to)) ≡ false = awaited_before (inbox_of inboxes to) from (ap (λ one. is_empty (senders_in one)) (sym e) ∙ not-true _ awaited) in
+      ap (λ step. step || not (is_empty (senders_in (inbox_of inboxes to)))) cannot ∙ ap not some
+]
 
 -- a set with one node more isn't empty
 with_some : (nodes : List ℕ) (node : ℕ) → is_empty (with_node node nodes) ≡ false

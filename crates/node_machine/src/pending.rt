@@ -140,6 +140,7 @@ impl Pending {
     }
 
     /// How many nodes there are.
+    #[inline]
     pub(crate) fn nodes(&self) -> usize
         ensures { result ≡ length self.now.inboxes }
     {
@@ -147,18 +148,27 @@ impl Pending {
     }
 
     /// Notes whether a node can step.
+    #[inline]
     pub(crate) fn set_step(&mut self, node: NodeId, can: bool)
         ensures { self.new ≡ record self.old { steps = slice_set self.old.steps node can } }
     {
         if can_step(&self.steps, node) == can {
             return;
         }
+        self.change_step(node, can);
+    }
+
+    /// Notes of a node whether it can step, and so whether it can act.
+    fn change_step(&mut self, node: NodeId, can: bool)
+        ensures { self.new ≡ record self.old { steps = slice_set self.old.steps node can } }
+    {
         note_step(&mut self.steps, node, can);
         let acts = can_act(&self.inboxes, &self.steps, node);
         put(&mut self.acting, node, acts);
     }
 
     /// A message from a node, to another, waits behind those that wait there. Where memory runs out nothing changes.
+    #[inline]
     pub(crate) fn push(&mut self, from: NodeId, to: NodeId, msg: Msg) -> Result<(), NoMemory>
         requires { from < length (inbox_of self.old.inboxes to) }
         ensures ok { OnOk result (self.new ≡ record self.old { inboxes = with_message from to msg self.old.inboxes }) }
@@ -169,18 +179,21 @@ impl Pending {
         Ok(())
     }
 
-    /// Takes the first message from a node to another, where one waits.
+    /// Takes the first message from a node to another, where one waits. With it gone the other may no longer be able to act.
+    #[inline]
     pub(crate) fn pop(&mut self, from: NodeId, to: NodeId) -> Option<Msg>
         ensures message { result ≡ first_of (queue_in self.old.inboxes from to) }
         ensures rest { self.new ≡ record self.old { inboxes = with_rest from to (rest_of (queue_in self.old.inboxes from to)) self.old.inboxes } }
     {
         let msg = self.inboxes.get_mut(to as usize)?.pop(from);
-        let acts = can_act(&self.inboxes, &self.steps, to);
-        put(&mut self.acting, to, acts);
+        if !can_act(&self.inboxes, &self.steps, to) {
+            self.acting.remove(to);
+        }
         msg
     }
 
     /// Whether a message from a node to another waits.
+    #[inline]
     pub(crate) fn has(&self, from: NodeId, to: NodeId) -> bool
         ensures { result ≡ not (is_empty (queue_in self.now.inboxes from to)) }
     {
@@ -191,6 +204,7 @@ impl Pending {
     }
 
     /// The nodes that can act, in ascending order.
+    #[inline]
     pub(crate) fn acting(&self) -> &NodeSet
         ensures { result.now ≡ acting_in self.now }
     {
@@ -198,6 +212,7 @@ impl Pending {
     }
 
     /// The senders from whom a message waits for a node, in ascending order.
+    #[inline]
     pub(crate) fn senders(&self, node: NodeId) -> &NodeSet
         ensures { result.now ≡ senders_in (inbox_of self.now.inboxes node) }
     {
@@ -216,7 +231,7 @@ fn place_of(mail: &Vec<Mail>, from: NodeId) -> Option<usize>
     mail.iter().position(|one| one.from == from)
 }
 
-/// Takes the message at a place. Those behind it come one place nearer; behind the last there are none.
+/// Takes the message at a place. Those behind it move one place up; behind the last there are none.
 #[inline]
 fn take_at(mail: &mut Vec<Mail>, place: usize) -> Option<Msg>
     requires { place < length mail.old.items }
@@ -252,6 +267,7 @@ fn note_step(steps: &mut Vec<bool>, node: NodeId, can: bool)
 }
 
 /// Whether a node is noted as one that can step.
+#[inline]
 fn can_step(steps: &Vec<bool>, node: NodeId) -> bool
     ensures { result ≡ slice_index_or steps.now.items node false }
 {
@@ -262,6 +278,7 @@ fn can_step(steps: &Vec<bool>, node: NodeId) -> bool
 }
 
 /// Whether a message waits for a node.
+#[inline]
 fn is_awaited(inboxes: &Vec<Inbox>, node: NodeId) -> bool
     ensures { result ≡ not (is_empty (senders_in (inbox_of inboxes.now.items node))) }
 {
@@ -272,6 +289,7 @@ fn is_awaited(inboxes: &Vec<Inbox>, node: NodeId) -> bool
 }
 
 /// Whether a node can act: it can step, or a message waits for it.
+#[inline]
 fn can_act(inboxes: &Vec<Inbox>, steps: &Vec<bool>, node: NodeId) -> bool
     ensures { result ≡ can_act_in (record { inboxes = inboxes.now.items; steps = steps.now.items }) node }
 {

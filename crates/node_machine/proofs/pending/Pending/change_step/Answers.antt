@@ -3,7 +3,7 @@ use Rattle.std.specs.Prelude.{if◌then◌else◌}
 use Rattle.std.proofs.lemmas.List.{length-set}
 use Rattle.node_set.specs.NodeSet.{with_node, without}
 use Rattle.node_machine.proofs.PendingLemmas.{acting_step}
-use Rattle.node_machine.proofs.pending.Pending.set_step.Goals as goal
+use Rattle.node_machine.proofs.pending.Pending.change_step.Goals as goal
 
 pub invariant_of-self : goal.invariant_of-self
 invariant_of-self c =
