@@ -1,5 +1,5 @@
 -- What waits in a mailbox, once a message has come or a sender's first message was taken.
-use Rattle.std.proofs.Common.{◌≡◌, ℕ, zero, suc, ◌<◌, ◌≤◌, Bool, true, false, cond, List, [], ◌∷◌, ◌++◌, length, get_or, set, take, drop, map, replicate, Some, None, refl, sym, ap, ◌∙◌, arith, inl, inr}
+use Rattle.std.proofs.Common.{◌≡◌, ℕ, zero, suc, ◌<◌, ◌≤◌, Bool, true, false, cond, List, [], ◌∷◌, ◌++◌, length, get_or, set, take, drop, map, replicate, Some, None, refl, sym, ap, ◌∙◌, arith, inl, inr, if◌then◌else◌}
 use Rattle.std.specs.Prelude.{Option, is_some, not, ◌==◌, filter, position, remove, slice_get, All}
 use Rattle.std.specs.List.{range_with_len, position_or_len}
 use Rattle.std.specs.Option.{option_map}
@@ -36,6 +36,14 @@ passes_same q [] i d l e = absurd (omega arith)
 passes_same q (x ∷ xs) zero d l e = rw e refl
 passes_same q (x ∷ xs) (suc i) d l e = ap (λ ys. cond (q x) (x ∷ ys) ys) (passes_same q xs i d (omega arith) e)
 
+-- and what else passes stands behind it
+passes_behind : {X : Type 0} (p : X → Bool) (xs : List X) (i : ℕ) (d : X) → i < length xs → ((k : ℕ) → k < i → p (get_or xs k d) ≡ false) → filter p (drop (suc i) xs) ≡ filter p (remove xs i)
+passes_behind p [] i d l before = absurd (omega arith)
+passes_behind p (x ∷ xs) zero d l before = refl
+passes_behind p (x ∷ xs) (suc i) d l before =
+    let fails : p x ≡ false = before 0 (omega arith) in
+    rw fails (passes_behind p xs i d (omega arith) (λ k m. before (suc k) (omega arith)))
+
 -- where no place is the first, nothing passes
 passes_none : {X : Type 0} (p : X → Bool) (xs : List X) → length xs ≤ position_or_len p xs → filter p xs ≡ []
 passes_none p [] l = refl
@@ -50,7 +58,8 @@ none_below false i e = refl
 
 -- Each sender's messages
 
-pub none_from : (mail : List Mail) (from : ℕ) → None ≡ position (is_from from) mail → messages_from mail from ≡ []
+-- where no place is a sender's first, no message is from it
+none_from : (mail : List Mail) (from : ℕ) → None ≡ position (is_from from) mail → messages_from mail from ≡ []
 none_from mail from e = ap (map (λ one. one.msg)) (passes_none (is_from from) mail (ltb-false _ _ (none_below _ _ e)))
 
 -- no message is from past the senders
@@ -64,14 +73,15 @@ none_past (one ∷ mail) count from known l =
 come_from : (mail : List Mail) (one : Mail) (i : ℕ) → messages_from (mail ++ one ∷ []) i ≡ messages_from mail i ++ messages_from (one ∷ []) i
 come_from mail one i = ap (map (λ one. one.msg)) (filter-append (is_from i) mail (one ∷ [])) ∙ map-append (λ one. one.msg) (filter (is_from i) mail) (filter (is_from i) (one ∷ []))
 
--- a sender's first message was taken
-record IsTaken (mail left : List Mail) (from : ℕ) (msg : Option Msg) : Type 0 where
+-- a sender's first message was taken from its place
+record IsTaken (mail left : List Mail) (from place : ℕ) : Type 0 where
   some : is_empty (messages_from mail from) ≡ false
-  message : msg ≡ first_of (messages_from mail from)
+  message : option_map (λ one. one.msg) (slice_get mail place) ≡ first_of (messages_from mail from)
   rest : messages_from left from ≡ rest_of (messages_from mail from)
+  behind : messages_from (drop (suc place) mail) from ≡ messages_from left from
   others : (i : ℕ) → (i == from) ≡ false → messages_from left i ≡ messages_from mail i
 
-taken : (mail : List Mail) (from place : ℕ) (d : Mail) → Some place ≡ position (is_from from) mail → IsTaken mail (remove mail place) from (option_map (λ one. one.msg) (slice_get mail place))
+taken : (mail : List Mail) (from place : ℕ) (d : Mail) → Some place ≡ position (is_from from) mail → IsTaken mail (remove mail place) from place
 taken mail from place d at =
     let first = position-Some (is_from from) mail place d (sym at) in
     let splits = passes_first (is_from from) mail place d first.0 first.1 first.2 in
@@ -80,21 +90,22 @@ taken mail from place d at =
       some = ap is_empty messages;
       message = ap (option_map (λ one. one.msg)) (slice_get-get_or mail place d first.0) ∙ sym (ap first_of messages);
       rest = sym (ap rest_of messages);
+      behind = ap (map (λ one. one.msg)) (passes_behind (is_from from) mail place d first.0 first.2);
       others = λ i other. ap (map (λ one. one.msg)) (passes_same (is_from i) mail place d first.0 (ne_eqb (get_or mail place d).from i (λ e. absurd (false≢true (sym other ∙ eq-eqb i from (sym e ∙ eqb-true (get_or mail place d).from from first.1))))));
     }
 
-is_taken : (mail left : List Mail) (from place : ℕ) → Some place ≡ position (is_from from) mail → left ≡ remove mail place → IsTaken mail left from (option_map (λ one. one.msg) (slice_get mail place))
+is_taken : (mail left : List Mail) (from place : ℕ) → Some place ≡ position (is_from from) mail → left ≡ remove mail place → IsTaken mail left from place
 is_taken [] left from place at e = cc
 is_taken (one ∷ mail) left from place at e = rw e (taken (one ∷ mail) from place one at)
 
--- whether a sender has a first message is whether it has one
-pub messages_wait : (mail : List Mail) (from : ℕ) (place : Option ℕ) → place ≡ position (is_from from) mail → is_empty (messages_from mail from) ≡ not (is_some place)
+-- a sender has a message where some place is its first
+messages_wait : (mail : List Mail) (from : ℕ) (place : Option ℕ) → place ≡ position (is_from from) mail → is_empty (messages_from mail from) ≡ not (is_some place)
 messages_wait mail from None at = ap is_empty (none_from mail from at)
 messages_wait mail from (Some place) at = (is_taken mail (remove mail place) from place at refl).some
 
 -- The lists
 
--- one is as the messages say
+-- a sender's list is its messages
 list_is : (mail : List Mail) (count from : ℕ) → All (λ one. one.from < count) mail → queue_from (lists_from mail count) from ≡ messages_from mail from
 list_is mail count from known = elim (cases_lt from count) [
   | inl l ↦ get_or-map-range_with_len (messages_from mail) 0 count from from [] l (omega arith)
@@ -165,26 +176,27 @@ module _ (count : ℕ) (mail left : List Mail) (from place : ℕ) (at : Some pla
     | inr l ↦ absurd (false≢true (sym (is_taken mail left from place at e).some ∙ ap is_empty (none_past mail count from known l)))
   ]
 
-  -- what stays of the sender's list
-  list_left : All (λ one. one.from < count) mail → is_empty (rest_of (queue_from (lists_from mail count) from)) ≡ is_empty (messages_from left from)
-  list_left known = ap (λ queue. is_empty (rest_of queue)) (list_is mail count from known) ∙ ap is_empty (sym (is_taken mail left from place at e).rest)
+  -- what stays of the sender's list is what is behind the place
+  list_left : All (λ one. one.from < count) mail → is_empty (rest_of (queue_from (lists_from mail count) from)) ≡ is_empty (messages_from (drop (suc place) mail) from)
+  list_left known =
+      let taken = is_taken mail left from place at e in
+      ap (λ queue. is_empty (rest_of queue)) (list_is mail count from known) ∙ ap is_empty (sym taken.rest ∙ sym taken.behind)
 
-  -- it was the sender's last one, or it was not
-  pub taken_last : (senders : List ℕ) → IsMailbox count mail senders → is_empty (messages_from left from) ≡ true → IsMailbox count left (without from senders)
-  taken_last senders is none =
+  -- the sender stays one from whom a message waits where there is one behind
+  senders_left : (senders : List ℕ) (more : Bool) → IsMailbox count mail senders → is_empty (messages_from (drop (suc place) mail) from) ≡ not more
+      → (if more then senders else without from senders) ≡ senders_in (lists_from left count)
+  senders_left senders true is some =
       let inbox = lists_from mail count in
-      record {
-        known = known_left is.known;
-        waiting = ap (without from) is.waiting ∙ senders_without inbox from (rest_of (queue_from inbox from)) (sender_within is.known) (list_left is.known ∙ none) ∙ ap senders_in (sym (taken_lists is.known));
-      }
+      is.waiting ∙ senders_same inbox from (rest_of (queue_from inbox from)) (sender_within is.known) (rest_some (queue_from inbox from) (list_left is.known ∙ some)) ∙ ap senders_in (sym (taken_lists is.known))
+  senders_left senders false is none =
+      let inbox = lists_from mail count in
+      ap (without from) is.waiting ∙ senders_without inbox from (rest_of (queue_from inbox from)) (sender_within is.known) (list_left is.known ∙ none) ∙ ap senders_in (sym (taken_lists is.known))
 
-  pub taken_one : (senders : List ℕ) → IsMailbox count mail senders → is_empty (messages_from left from) ≡ false → IsMailbox count left senders
-  taken_one senders is some =
-      let inbox = lists_from mail count in
-      record {
-        known = known_left is.known;
-        waiting = is.waiting ∙ senders_same inbox from (rest_of (queue_from inbox from)) (sender_within is.known) (rest_some (queue_from inbox from) (list_left is.known ∙ some)) ∙ ap senders_in (sym (taken_lists is.known));
-      }
+  pub taken_mailbox : (senders : List ℕ) → IsMailbox count mail senders → IsMailbox count left (if is_some (position (is_from from) (drop (suc place) mail)) then senders else without from senders)
+  taken_mailbox senders is = record {
+    known = known_left is.known;
+    waiting = senders_left senders (is_some (position (is_from from) (drop (suc place) mail))) is (messages_wait (drop (suc place) mail) from (position (is_from from) (drop (suc place) mail)) refl);
+  }
 
 -- Who is among the senders
 

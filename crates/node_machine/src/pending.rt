@@ -1,4 +1,4 @@
-ghost use Rattle.std.specs.Prelude.{◌≡◌, ◌<◌, ◌++◌, ◌∷◌, [], not, length, replicate, position, remove, slice_get, slice_set, slice_index_or, IfOk, OnOk, OnErr, false, if◌then◌else◌};
+ghost use Rattle.std.specs.Prelude.{◌≡◌, ◌<◌, ◌++◌, ◌∷◌, [], not, length, replicate, position, remove, is_some, Some, slice_get, slice_set, slice_index_or, IfOk, OnOk, OnErr, false, if◌then◌else◌};
 ghost use Rattle.std.specs.Option.{option_map};
 ghost use Rattle.event_journal.specs.State.{is_empty};
 ghost use Rattle.node_set.specs.NodeSet.{with_node, without};
@@ -70,11 +70,8 @@ impl Inbox {
         ensures rest { self.new ≡ with_queue_from self.old from (rest_of (queue_from self.old from)) }
     {
         let place = place_of(&self.mail, from)?;
-        let msg = take_at(&mut self.mail, place);
-        if place_of(&self.mail, from).is_none() {
-            self.senders.remove(from);
-        }
-        msg
+        leave_unless(&mut self.senders, &self.mail[place + 1..], from);
+        take_at(&mut self.mail, place)
     }
 
     /// Whether a message of a sender waits.
@@ -225,13 +222,23 @@ impl Pending {
 
 /// The place of a sender's first message.
 #[inline]
-fn place_of(mail: &Vec<Mail>, from: NodeId) -> Option<usize>
-    ensures { result ≡ position (is_from from) mail.now.items }
+fn place_of(mail: &[Mail], from: NodeId) -> Option<usize>
+    ensures { result ≡ position (is_from from) mail.now }
 {
     mail.iter().position(|one| one.from == from)
 }
 
-/// Takes the message at a place. Those behind it move one place up; behind the last there are none.
+/// Takes a sender out of a set, unless one of these messages is from it.
+#[inline]
+fn leave_unless(senders: &mut NodeSet, mail: &[Mail], from: NodeId)
+    ensures { senders.new ≡ (if is_some (position (is_from from) mail.now) then senders.old else without from senders.old) }
+{
+    if place_of(mail, from).is_none() {
+        senders.remove(from);
+    }
+}
+
+/// Takes the message at a place. Nearly always it is the last one, behind which none has to move.
 #[inline]
 fn take_at(mail: &mut Vec<Mail>, place: usize) -> Option<Msg>
     requires { place < length mail.old.items }
@@ -239,11 +246,21 @@ fn take_at(mail: &mut Vec<Mail>, place: usize) -> Option<Msg>
     ensures rest { mail.new.items ≡ remove mail.old.items place }
 {
     if place + 1 < mail.len() {
-        let Mail { msg, .. } = mail.remove(place);
-        return Some(msg);
+        return Some(take_before_others(mail, place));
     }
     let Mail { msg, .. } = mail.pop()?;
     Some(msg)
+}
+
+/// Takes the message at a place, and moves those behind it one place up.
+#[inline(never)]
+fn take_before_others(mail: &mut Vec<Mail>, place: usize) -> Msg
+    requires { place < length mail.old.items }
+    ensures message { Some result ≡ option_map (λ one. one.msg) (slice_get mail.old.items place) }
+    ensures rest { mail.new.items ≡ remove mail.old.items place }
+{
+    let Mail { msg, .. } = mail.remove(place);
+    msg
 }
 
 /// Puts a node into a set, or takes it out.
