@@ -1,6 +1,6 @@
 ghost use Rattle.std.specs.Prelude.{◌≡◌};
 ghost use Rattle.rv_exec.specs.Access.{IsAccess};
-ghost use Rattle.rv_hart.specs.Reservation.{span_of, matches, reserved, is_conditional};
+ghost use Rattle.rv_hart.specs.Reservation.{span_of, matches, reserved, lacks_reservation};
 
 use rv_exec::{Access, AccessOp};
 
@@ -46,10 +46,10 @@ pub fn reserved(access: &Access, old: Option<Span>) -> Option<Span>
     }
 }
 
-/// Whether an access is a store-conditional.
+/// Whether an access is a store-conditional whose reservation doesn't stand.
 #[inline(always)]
-pub(crate) fn is_conditional(op: AccessOp) -> bool
-    ensures { result ≡ is_conditional op }
+pub(crate) fn lacks_reservation(reservation: Option<Span>, access: &Access) -> bool
+    ensures { result ≡ lacks_reservation reservation access.now }
 {
-    matches!(op, AccessOp::Sc)
+    matches!(access.op(), AccessOp::Sc) && !matches(reservation, access)
 }

@@ -3,7 +3,7 @@ ghost use Rattle.rv_decode.specs.Valid.{IsValid};
 ghost use Rattle.rv_hart.specs.Step.{next_step, instruction_step, access_step, is_allowed, right_of, access_fault, is_granted, IsStep};
 
 use crate::calls::call_step;
-use crate::reservations::{Span, is_conditional, matches};
+use crate::reservations::{Span, lacks_reservation};
 use elf_image::{Right, World};
 use rv_decode::{Instr, decode};
 use rv_exec::{Access, AccessOp, Meaning, Regs, class, effect};
@@ -115,12 +115,11 @@ fn access_step(world: &World, reservation: Option<Span>, access: Access) -> Step
     ensures step { result ≡ access_step world.now reservation access }
     ensures known { IsStep world.now result }
 {
-    let op = access.op();
-    if !world.may(access.addr(), u64::from(access.size()), right_of(op)) {
+    if !is_granted(world, &access) {
         Step::Trap {
-            cause: access_fault(op),
+            cause: access_fault(access.op()),
         }
-    } else if is_conditional(op) && !matches(reservation, &access) {
+    } else if lacks_reservation(reservation, &access) {
         Step::ScFails { rd: access.rd() }
     } else {
         Step::Access { access }
@@ -133,9 +132,19 @@ fn access_step(world: &World, reservation: Option<Span>, access: Access) -> Step
 pub fn is_allowed(world: &World, reservation: Option<Span>, access: &Access) -> bool
     ensures { result ≡ is_allowed world.now reservation access.now }
 {
-    let op = access.op();
-    world.may(access.addr(), u64::from(access.size()), right_of(op))
-        && (!is_conditional(op) || matches(reservation, access))
+    is_granted(world, access) && !lacks_reservation(reservation, access)
+}
+
+/// Whether each byte of an access has the right that it needs.
+#[inline(always)]
+fn is_granted(world: &World, access: &Access) -> bool
+    ensures { result ≡ is_granted world.now access.now }
+{
+    world.may(
+        access.addr(),
+        u64::from(access.size()),
+        right_of(access.op()),
+    )
 }
 
 /// The right that an access needs of its bytes.
