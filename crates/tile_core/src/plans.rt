@@ -3,7 +3,6 @@ ghost use Rattle.rv_hart.specs.Step.{IsStep};
 ghost use Rattle.tile_core.specs.Plan.{plan_by, IsPlan};
 
 use elf_image::World;
-use mesh_model::cost;
 use rv_exec::Access;
 use rv_hart::Step;
 use rv_hart::registers::A0;
@@ -56,7 +55,6 @@ pub(crate) fn plan_for(world: &World, pc: u64, step: Step) -> Plan
     ensures plan { result ≡ plan_by world.now pc step }
     ensures known { IsPlan world.now result }
 {
-    let config = world.config();
     match step {
         Step::Next {
             class,
@@ -67,7 +65,7 @@ pub(crate) fn plan_for(world: &World, pc: u64, step: Step) -> Plan
             rd,
             value,
             pc,
-            cost: cost(config, class),
+            cost: world.cost(class),
             answered: false,
         },
         Step::Access { access } => Plan::Access { access },
@@ -76,7 +74,7 @@ pub(crate) fn plan_for(world: &World, pc: u64, step: Step) -> Plan
             rd: A0,
             value,
             pc: pc.wrapping_add(4),
-            cost: cost(config, CostClass::Call),
+            cost: world.cost(CostClass::Call),
             answered: true,
         },
         Step::Ask { call } => Plan::Send { call },

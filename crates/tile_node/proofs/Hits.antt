@@ -4,7 +4,6 @@ use Rattle.std.specs.Prelude.{Option, Some, None, slice_index, if◌then◌else�
 use Rattle.std.specs.Option.{option_map}
 use Rattle.std.proofs.lemmas.Option.{same_Some}
 use Rattle.sim_base.specs.declared.actions.Action.TheVariants.{Exec}
-use Rattle.sim_base.specs.declared.settings.Config.{Config}
 use Rattle.sim_base.specs.LittleEndian.{loaded}
 use Rattle.elf_image.specs.Layout.{Setup}
 use Rattle.rv_exec.specs.Access.{Asked, finish_of, finish_by}
@@ -38,10 +37,10 @@ hit_on : (w : Setup) (t : Tile) (access : Asked) (way : Way) → way_of t.cache 
 hit_on w t access way there enough = ap (accesses_by w t access) there ∙ hit_by w t access way true enough refl
 
 -- what such an act makes
-hit_makes : (w : Setup) (t new : Tile) (access : Asked) (done : Done) (config : Config) (op : AccessOp) → accesses w t access ≡ hit_act w t access done → config ≡ w.config
-    → op ≡ access.op → new ≡ after_hit config (past (record t { cache = with_written (touched t.cache (line_at access.addr)) access done.write }) access done) op
+hit_makes : (w : Setup) (t new : Tile) (access : Asked) (done : Done) (op : AccessOp) → accesses w t access ≡ hit_act w t access done
+    → op ≡ access.op → new ≡ after_hit w.config (past (record t { cache = with_written (touched t.cache (line_at access.addr)) access done.write }) access done) op
     → DoesAtOnce true t new (accesses w t access)
-hit_makes w t new access done config op is same kind made = rw is ((rw (same, kind) at made, refl, refl), rw made refl)
+hit_makes w t new access done op is kind made = rw is (record { tile = rw kind at made; quiet = refl; commits = refl; stays = rw made refl })
 
 -- a load: any hold is enough, and nothing is written
 load_suits : (op : AccessOp) (hold : Hold) → op ≡ Load → suits op hold ≡ true
@@ -66,15 +65,15 @@ load_on w t access (Some way) old there kind gave =
     hit_on w t access way there (load_suits access.op way.hold kind) ∙ ap (λ n. hit_act w t access (finish_of access n)) (sym (same_Some _ _ gave))
 
 pub load_makes : (w : Setup) (v t : Tile) → v ≡ t → (new : Tile) (access : Asked) (op : AccessOp) (line addr place size old : ℕ) (cache : Sets) (done : Done) (gone : Tile)
-    (config : Config) → access.op ≡ Load → op ≡ access.op → line ≡ line_at addr → addr ≡ access.addr → place ≡ place_in_line access.addr → size ≡ access.size
+    → access.op ≡ Load → op ≡ access.op → line ≡ line_at addr → addr ≡ access.addr → place ≡ place_in_line access.addr → size ≡ access.size
     → Some old ≡ number_of v.cache line place size → cache ≡ touched v.cache line → done ≡ finish_of access old → gone ≡ past (record v { cache = cache }) access done
-    → config ≡ w.config → new ≡ after_hit config gone op → DoesAtOnce true t new (accesses w t access)
-load_makes w v t is new access op line addr place size old cache done gone config kind named_kind lies named here wide gave front finished went same made =
+    → new ≡ after_hit w.config gone op → DoesAtOnce true t new (accesses w t access)
+load_makes w v t is new access op line addr place size old cache done gone kind named_kind lies named here wide gave front finished went made =
     let act : accesses w v access ≡ hit_act w v access done = rw finished (load_on w v access (way_of v.cache (line_at access.addr)) old refl kind (rw (lies, named, here, wide) at gave)) in
     let none : done.write ≡ None = rw finished (load_writes access.op access old kind) in
     let at_front : cache ≡ with_written (touched v.cache (line_at access.addr)) access done.write = rw none (rw (lies, named) at front) in
     let past_it : gone ≡ past (record v { cache = with_written (touched v.cache (line_at access.addr)) access done.write }) access done = rw at_front at went in
-    rw (← is) (hit_makes w v new access done config op act same named_kind (rw past_it at made))
+    rw (← is) (hit_makes w v new access done op act named_kind (rw past_it at made))
 
 -- an access that asks for its line to write it finds it in M
 m_suits : (op : AccessOp) (hold : Hold) → hold ≡ M → suits op hold ≡ true
@@ -106,14 +105,14 @@ store_on w t access (Some way) there kind held =
     hit_on w t access way there (m_suits access.op way.hold (m_hold way held)) ∙ ap (hit_act w t access) (store_finish access.op access _ 0 kind)
 
 pub store_makes : (w : Setup) (v t : Tile) → v ≡ t → (new : Tile) (access : Asked) (op : AccessOp) (line addr place size value : ℕ) (held : Bool) (cache : Sets) (done : Done)
-    (gone : Tile) (config : Config) → access.op ≡ Store → op ≡ access.op → line ≡ line_at addr → addr ≡ access.addr → place ≡ place_in_line access.addr
+    (gone : Tile) → access.op ≡ Store → op ≡ access.op → line ≡ line_at addr → addr ≡ access.addr → place ≡ place_in_line access.addr
     → size ≡ access.size → held ≡ is_m (hold_of v.cache line) → held ≡ true
     → cache ≡ (if is_m (hold_of v.cache line) then written (touched v.cache line) line place size value else v.cache) → done ≡ finish_of access 0 → done.write ≡ Some value
-    → gone ≡ past (record v { cache = cache }) access done → config ≡ w.config → new ≡ after_hit config gone op → DoesAtOnce true t new (accesses w t access)
-store_makes w v t is new access op line addr place size value held cache done gone config kind named_kind lies named here wide tells has wrote finished writes went same made =
+    → gone ≡ past (record v { cache = cache }) access done → new ≡ after_hit w.config gone op → DoesAtOnce true t new (accesses w t access)
+store_makes w v t is new access op line addr place size value held cache done gone kind named_kind lies named here wide tells has wrote finished writes went made =
     let in_m : is_m (hold_of v.cache line) ≡ true = sym tells ∙ has in
     let act : accesses w v access ≡ hit_act w v access done = rw finished (store_on w v access (way_of v.cache (line_at access.addr)) refl kind (rw (lies, named) at in_m)) in
     let stored : cache ≡ written (touched v.cache line) line place size value = rw in_m at wrote in
     let there : cache ≡ with_written (touched v.cache (line_at access.addr)) access done.write = rw writes (rw (lies, named, here, wide) at stored) in
     let past_it : gone ≡ past (record v { cache = with_written (touched v.cache (line_at access.addr)) access done.write }) access done = rw there at went in
-    rw (← is) (hit_makes w v new access done config op act same named_kind (rw past_it at made))
+    rw (← is) (hit_makes w v new access done op act named_kind (rw past_it at made))

@@ -1,6 +1,6 @@
 -- What most instructions ask for is their plan.
 use Rattle.std.proofs.Common.{◌≡◌, ℕ, ◌++◌, Bool, true, false, List, Some, refl, sym, ap, ◌∙◌}
-use Rattle.std.specs.Prelude.{Option, not, ◌&&◌, Ok}
+use Rattle.std.specs.Prelude.{not, ◌&&◌, Ok}
 use Rattle.std.proofs.lemmas.Bool.{and_parts}
 use Rattle.std.proofs.lemmas.List.{append-nil}
 use Rattle.sim_base.specs.declared.actions.Action.TheVariants.{Exec}
@@ -13,21 +13,21 @@ use Rattle.rv_exec.specs.declared.meaning.Meaning.TheVariants.{Next, Access as A
 use Rattle.rv_exec.specs.Access.{Asked}
 use Rattle.rv_exec.specs.Class.{class_of}
 use Rattle.rv_exec.specs.Effect.{effect_of}
-use Rattle.rv_hart.specs.declared.reservations.Span.{Span}
-use Rattle.rv_hart.specs.declared.steps.Step.TheVariants.{Access as AccessStep}
-use Rattle.rv_hart.specs.Reservation.{lacks_reservation}
-use Rattle.rv_hart.specs.Step.{is_granted, is_allowed, access_step, meaning_step}
-use Rattle.rv_hart.proofs.InstructionLemmas.{lent_step}
+use Rattle.rv_hart.specs.Step.{is_allowed, meaning_step}
+use Rattle.rv_hart.proofs.InstructionLemmas.{lent_step, allowed_step}
 use Rattle.tile_core.specs.declared.cores.TileCore.{TileCore}
 use Rattle.tile_core.specs.declared.plans.Plan.TheVariants.{Local, Access}
 use Rattle.tile_core.specs.Plan.{plan_by, plan_of}
 use Rattle.tile_core.specs.declared.cores.Status.{Status}
 use Rattle.tile_core.specs.declared.cores.Status.TheVariants.{Idle, Run, Miss, Called, Writing, AtBarrier, Probing, Trapped}
 use Rattle.wire_msg.specs.declared.messages.Msg.{Msg}
-use Rattle.tile_node.specs.Tile.{Tile, Act, sent_by}
-use Rattle.tile_node.specs.Answers.{Answers, IsOf, StepsAtOnce}
+use Rattle.tile_node.specs.Tile.{Tile, sent_by}
+use Rattle.tile_node.specs.Answers.{Answers, IsOf}
+use Rattle.tile_node.specs.AtOnce.{IsMadeAtOnce, StepsAtOnce, runs, runs_freely}
 use Rattle.tile_node.specs.Step.{accesses, does_locally, follows, tile_step, steps_in, can_step, waits_for_limit, looks_around}
-use Rattle.tile_node.specs.Inner.{DoesAtOnce, runs, runs_freely}
+use Rattle.tile_node.specs.declared.at_once.Attempt.{Attempt}
+use Rattle.tile_node.specs.declared.at_once.Attempt.TheVariants.{Done, Asks, Other}
+use Rattle.tile_node.specs.Inner.{Attempts, DoesAtOnce, IsDoneAtOnce, is_done}
 use Rattle.tile_node.proofs.Fits.{step_fits}
 use Rattle.tile_node.proofs.OneLinePlain.{step_keeps_number}
 
@@ -43,24 +43,15 @@ plan_of_next w core i rd value pc found e =
     plan_by_meaning w core i found ∙ ap (λ m. plan_by w core.pc (meaning_step w core.regs core.reservation core.thread (class_of i) m)) e
 
 -- an instruction that gives a register a number is done at once by its plan
-pub next_at_once : (w : Setup) (v t : Tile) → v ≡ t → (new : Tile) (i : Instr) (rd value pc cost : ℕ) (config : Config) (class : CostClass)
-    → instruction w v.core.pc ≡ Some i → effect_of i v.core.regs v.core.pc ≡ Next rd value pc → config ≡ w.config → class ≡ class_of i
-    → cost ≡ cost_of config class → new ≡ (does_locally t rd value pc cost).tile
-    → DoesAtOnce true t new (follows w t (plan_of w t.core))
-next_at_once w v t is new i rd value pc cost config class found e same of_class of_cost made =
-    let plan : plan_of w t.core ≡ Local rd value pc (cost_of w.config (class_of i)) false = rw (← is) (plan_of_next w v.core i rd value pc found e) in
-    let dear : cost ≡ cost_of w.config (class_of i) = rw (same, of_class) at of_cost in
-    rw plan ((rw dear at made, refl, refl), rw made refl)
-
--- an access that is allowed is made as it is asked for
-by_rights : (w : Setup) (r : Option Span) (access : Asked) (granted lacks : Bool) → is_granted w access ≡ granted → lacks_reservation r access ≡ lacks
-    → (granted && not lacks) ≡ true → access_step w r access ≡ AccessStep access
-by_rights w r access true false g l h = rw (g, l) refl
-by_rights w r access true true g l h = cc
-by_rights w r access false lacks g l h = cc
-
-allowed_step : (w : Setup) (r : Option Span) (access : Asked) → is_allowed w r access ≡ true → access_step w r access ≡ AccessStep access
-allowed_step w r access h = by_rights w r access (is_granted w access) (lacks_reservation r access) refl refl h
+pub next_at_once : (w : Setup) (v t : Tile) → v ≡ t → (new : Tile) (i lent : Instr) (rd value pc cost : ℕ) (class : CostClass)
+    → instruction w v.core.pc ≡ Some i → lent ≡ i → effect_of lent v.core.regs v.core.pc ≡ Next rd value pc → class ≡ class_of i
+    → cost ≡ cost_of w.config class → new ≡ (does_locally t rd value pc cost).tile
+    → IsDoneAtOnce t new (follows w t (plan_of w t.core))
+next_at_once w v t is new i lent rd value pc cost class found same e of_class of_cost made =
+    let plan : plan_of w t.core ≡ Local rd value pc (cost_of w.config (class_of i)) false =
+    rw (← is) (plan_of_next w v.core i rd value pc found (rw same at e)) in
+    let dear : cost ≡ cost_of w.config (class_of i) = rw of_class at of_cost in
+    rw plan (record { tile = rw dear at made; quiet = refl; commits = refl; stays = rw made refl })
 
 plan_of_access : (w : Setup) (core : TileCore) (i : Instr) (access : Asked) → instruction w core.pc ≡ Some i
     → effect_of i core.regs core.pc ≡ AccessMeaning access → is_allowed w core.reservation access ≡ true
@@ -71,12 +62,29 @@ plan_of_access w core i access found e h =
     ∙ ap (plan_by w core.pc) (allowed_step w core.reservation access h)
 
 -- so is an access that is allowed
-pub access_at_once : (w : Setup) (v t : Tile) → v ≡ t → (new : Tile) (i : Instr) (access : Asked) (allowed : Bool) → instruction w v.core.pc ≡ Some i
-    → effect_of i v.core.regs v.core.pc ≡ AccessMeaning access → allowed ≡ is_allowed w v.core.reservation access → allowed ≡ true
-    → (does : Bool) → DoesAtOnce does t new (accesses w t access) → DoesAtOnce does t new (follows w t (plan_of w t.core))
-access_at_once w v t is new i access allowed found e tells has does made =
-    let plan : plan_of w t.core ≡ Access access = rw (← is) (plan_of_access w v.core i access found e (sym tells ∙ has)) in
-    rw plan made
+pub access_planned : (w : Setup) (v t : Tile) → v ≡ t → (i lent : Instr) (access : Asked) (allowed : Bool) → instruction w v.core.pc ≡ Some i
+    → lent ≡ i → effect_of lent v.core.regs v.core.pc ≡ AccessMeaning access → allowed ≡ is_allowed w v.core.reservation access → allowed ≡ true
+    → plan_of w t.core ≡ Access access
+access_planned w v t is i lent access allowed found same e tells has =
+    rw (← is) (plan_of_access w v.core i access found (rw same at e) (sym tells ∙ has))
+
+pub access_done : (w : Setup) (t new : Tile) (access : Asked) (does : Bool) → plan_of w t.core ≡ Access access → does ≡ true
+    → DoesAtOnce does t new (accesses w t access) → IsDoneAtOnce t new (follows w t (plan_of w t.core))
+access_done w t new access does plan has made =
+    let done : DoesAtOnce true t new (accesses w t access) = rw has at made in
+    rw plan done
+
+pub access_asked : (w : Setup) (t new : Tile) (access : Asked) (does : Bool) → does ≡ false → DoesAtOnce does t new (accesses w t access) → new ≡ t
+access_asked w t new access does not made =
+    let left : DoesAtOnce false t new (accesses w t access) = rw not at made in
+    left
+
+-- what an attempt did
+pub attempted : (w : Setup) (attempt : Attempt) (t new : Tile) → Attempts w attempt t new
+    → DoesAtOnce (is_done attempt) t new (follows w t (plan_of w t.core))
+attempted w Done t new made = made
+attempted w (Asks access) t new made = made.0
+attempted w Other t new made = made
 
 -- a thread that runs freely executes an instruction in its step
 by_tests : (w : Setup) (t : Tile) (status : Status) (waits looks : Bool) → t.core.status ≡ status → waits_for_limit w.config.policy t.core.clock t.core.limit ≡ waits
@@ -93,9 +101,14 @@ by_tests w t (AtBarrier writing) b c is waits looks h = cc
 by_tests w t (Probing writing partner replies) b c is waits looks h = cc
 by_tests w t Trapped b c is waits looks h = cc
 
-free_step : (w : Setup) (t : Tile) → runs_freely w.config t.core ≡ true → tile_step w t ≡ follows w t (plan_of w t.core)
+pub free_step : (w : Setup) (t : Tile) → runs_freely w.config t.core ≡ true → tile_step w t ≡ follows w t (plan_of w t.core)
 free_step w t h = by_tests w t t.core.status (waits_for_limit w.config.policy t.core.clock t.core.limit)
     (looks_around w.config.policy w.config.tiles t.core.clock t.core.next_check) refl refl refl h
+
+-- so its step is an access where that is its plan
+pub asked_step : (w : Setup) (t : Tile) (access : Asked) → runs_freely w.config t.core ≡ true → plan_of w t.core ≡ Access access
+    → tile_step w t ≡ accesses w t access
+asked_step w t access free plan = free_step w t free ∙ ap (follows w t) plan
 
 -- a step that is made at once
 by_status : (status : Status) → runs status ≡ true → steps_in status ≡ true
@@ -115,33 +128,38 @@ step_made w t new true free made =
     let looks = looks_around w.config.policy w.config.tiles t.core.clock t.core.next_check in
     let step : tile_step w t ≡ follows w t (plan_of w t.core) = free_step w t free in
     let ran : runs t.core.status ≡ true = (and_parts (runs t.core.status) (not waits) (and_parts (runs t.core.status && not waits) (not looks) free).0).0 in
-    let can : can_step new ≡ true = rw made.1 (by_status t.core.status ran) in
-    rw step (made.0.0, made.0.1, made.0.2, can)
+    let can : can_step new ≡ true = rw made.stays (by_status t.core.status ran) in
+    rw step (record { tile = made.tile; quiet = made.quiet; commits = made.commits; again = can })
 step_made w t new false free made = made
 
 -- what is known of the tile after a step that was made at once, or wasn't
 pub record IsSteppedAtOnce (w : Setup) (t new : Tile) (does : Bool) : Type 0 where
-  pub answers : StepsAtOnce does t new (tile_step w t)
+  pub step : StepsAtOnce does t new (tile_step w t)
   pub fits : IsOf w new
   pub number : new.number ≡ t.number
 
 after_step : (w : Setup) (t new : Tile) (does : Bool) → IsOf w t → StepsAtOnce does t new (tile_step w t) → IsSteppedAtOnce w t new does
 after_step w t new true fits made = record {
-  answers = made;
-  fits = rw made.0 (step_fits w t fits);
-  number = ap (λ (a : Tile). a.number) made.0 ∙ step_keeps_number w t;
+  step = made;
+  fits = rw made.tile (step_fits w t fits);
+  number = ap (λ (a : Tile). a.number) made.tile ∙ step_keeps_number w t;
 }
-after_step w t new false fits made = record { answers = made; fits = rw made fits; number = ap (λ (a : Tile). a.number) made }
+after_step w t new false fits made = record { step = made; fits = rw made fits; number = ap (λ (a : Tile). a.number) made }
 
-pub steps_at_once : (w : Setup) (t new : Tile) (config : Config) (free does : Bool) → config ≡ w.config → IsOf w t → free ≡ runs_freely config t.core → free ≡ true
+pub made_at_once : (w : Setup) (t new : Tile) (config : Config) (free does : Bool) → config ≡ w.config → IsOf w t → free ≡ runs_freely config t.core → free ≡ true
     → DoesAtOnce does t new (follows w t (plan_of w t.core)) → IsSteppedAtOnce w t new does
-steps_at_once w t new config free does same fits tells has made =
+made_at_once w t new config free does same fits tells has made =
     after_step w t new does fits (step_made w t new does (rw same at (sym tells ∙ has)) made)
 
--- an act that was done at once is what the step answers
-pub answers_at_once : (v t : Tile) → v ≡ t → (new : Tile) (act : Act) (does : Bool) (sent : List (ℕ × Msg)) → does ≡ true → StepsAtOnce does t new act → v.spent ≡ false
-    → Answers (Ok (Some (Exec v.core.thread))) t new sent sent act
-answers_at_once v t is new act does sent has done able =
-    let made : StepsAtOnce true t new act = rw has at done in
-    let stays : sent ≡ sent ++ sent_by act = sym (ap (λ m. sent ++ m) made.1 ∙ append-nil sent) in
-    (rw is at able, made.0, stays, rw is made.2)
+pub done_at_once : (w : Setup) (t new : Tile) (config : Config) (free : Bool) (attempt : Attempt) → config ≡ w.config → IsOf w t → free ≡ runs_freely config t.core
+    → free ≡ true → attempt ≡ Done → Attempts w attempt t new → IsSteppedAtOnce w t new true
+done_at_once w t new config free attempt same fits tells has is made =
+    let done : Attempts w Done t new = rw is at made in
+    made_at_once w t new config free true same fits tells has done
+
+-- what the step answers that did its instruction at once
+pub answers_at_once : (w : Setup) (v t : Tile) → v ≡ t → (new : Tile) (sent : List (ℕ × Msg)) → IsMadeAtOnce t new (tile_step w t) → v.spent ≡ false
+    → Answers (Ok (Some (Exec v.core.thread))) t new sent sent (tile_step w t)
+answers_at_once w v t is new sent made able =
+    let stays : sent ≡ sent ++ sent_by (tile_step w t) = sym (ap (λ m. sent ++ m) made.quiet ∙ append-nil sent) in
+    (rw is at able, made.tile, stays, rw is (sym made.commits))

@@ -1,7 +1,6 @@
 -- What a tile's calls ask for and answer.
-use Rattle.std.specs.Prelude.{ℕ, ◌<◌, ◌≡◌, ◌++◌, Bool, true, false, List, [], length, Option, Some, None, Result, Ok, Err}
+use Rattle.std.specs.Prelude.{ℕ, ◌<◌, ◌≡◌, ◌++◌, true, false, List, length, Option, None, Result, Ok, Err}
 use Rattle.sim_base.specs.declared.actions.Action.{Action}
-use Rattle.sim_base.specs.declared.actions.Action.TheVariants.{Exec}
 use Rattle.sim_base.specs.declared.memory.NoMemory.{NoMemory}
 use Rattle.elf_image.specs.Layout.{Setup}
 use Rattle.wire_msg.specs.declared.messages.Msg.{Msg}
@@ -9,7 +8,6 @@ use Rattle.tile_core.specs.declared.cores.Status.{Status}
 use Rattle.tile_core.specs.declared.cores.Status.TheVariants.{Miss, Probing}
 use Rattle.tile_core.specs.Gathering.{Gathering}
 use Rattle.tile_node.specs.Tile.{Tile, Act, sent_by}
-use Rattle.tile_node.specs.Step.{can_step}
 
 -- what is known of a core that waits: the byte that a miss is for is one of its write's, and there was no eighth reply to
 -- a probe
@@ -32,9 +30,3 @@ pub record IsOf (w : Setup) (t : Tile) : Type 0 where
 abbrev pub Answers : Result (Option Action) NoMemory → Tile → Tile → List (ℕ × Msg) → List (ℕ × Msg) → Act → Type 0
 Answers (Ok action) old new out_old out_new act = (old.spent ≡ false) × (new ≡ act.tile) × (out_new ≡ out_old ++ sent_by act) × (action ≡ act.action)
 Answers (Err e) old new out_old out_new act = new.spent ≡ true
-
--- what a step answers that is made at once: true where it is made, an instruction of the thread commits, nothing is sent and
--- the tile can step again; else nothing changes
-abbrev pub StepsAtOnce : Bool → Tile → Tile → Act → Type 0
-StepsAtOnce true old new act = (new ≡ act.tile) × (sent_by act ≡ []) × (Some (Exec old.core.thread) ≡ act.action) × (can_step new ≡ true)
-StepsAtOnce false old new act = new ≡ old

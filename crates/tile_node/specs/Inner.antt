@@ -1,19 +1,21 @@
 -- For the contracts of the code alone: no clause of a public function needs this. What a rule's function answers, and
 -- parts of acts.
-use Rattle.std.specs.Prelude.{ℕ, ◌≡◌, ◌++◌, ◌&&◌, not, Bool, true, false, List, [], Option, Some, Result, Ok, Err}
+use Rattle.std.specs.Prelude.{ℕ, ◌≡◌, ◌++◌, Bool, true, false, List, [], Option, Some, Result, Ok, Err}
 use Rattle.sim_base.specs.declared.actions.Action.TheVariants.{Exec}
 use Rattle.sim_base.specs.declared.actions.Action.{Action}
 use Rattle.sim_base.specs.declared.memory.NoMemory.{NoMemory}
 use Rattle.wire_msg.specs.declared.messages.Msg.{Msg}
 use Rattle.rv_exec.specs.declared.access.AccessOp.{AccessOp}
-use Rattle.rv_exec.specs.declared.access.Done.{Done}
+use Rattle.rv_exec.specs.declared.access.Done.{Done as DoneAccess}
 use Rattle.rv_exec.specs.Access.{Asked}
 use Rattle.sim_base.specs.declared.settings.Config.{Config}
+use Rattle.elf_image.specs.Layout.{Setup}
 use Rattle.mesh_model.specs.Cost.{cost_of}
-use Rattle.tile_core.specs.declared.cores.TileCore.{TileCore}
-use Rattle.tile_core.specs.declared.cores.Status.{Status}
-use Rattle.tile_core.specs.declared.cores.Status.TheVariants.{Run}
-use Rattle.tile_node.specs.Step.{waits_for_limit, looks_around}
+use Rattle.tile_core.specs.declared.plans.Plan.TheVariants.{Access}
+use Rattle.tile_core.specs.Plan.{plan_of}
+use Rattle.tile_node.specs.declared.at_once.Attempt.{Attempt}
+use Rattle.tile_node.specs.declared.at_once.Attempt.TheVariants.{Done, Asks, Other}
+use Rattle.tile_node.specs.Step.{follows}
 use Rattle.tile_node.specs.Tile.{Tile, Act, sent_by, accessed, with_written, one_more, later, access_class}
 
 -- want of memory leaves a tile in its place, and its core as it was
@@ -33,26 +35,36 @@ Makes (Err e) old new out_old out_new act = IsKept old new
 abbrev pub MakesAlone : Option Action → Tile → Act → Type 0
 MakesAlone action new act = (new ≡ act.tile) × (sent_by act ≡ []) × (action ≡ act.action)
 
--- what a function answers that makes an act where that is an instruction that sends nothing and leaves the core's status,
--- and else changes nothing
+-- an act was done that is an instruction of the thread, sends nothing and leaves the core's status
+pub record IsDoneAtOnce (old new : Tile) (act : Act) : Type 0 where
+  pub tile : new ≡ act.tile
+  pub quiet : sent_by act ≡ []
+  pub commits : act.action ≡ Some (Exec old.core.thread)
+  pub stays : new.core.status ≡ old.core.status
+
+-- what a function answers that does such an act; where it doesn't nothing changes
 abbrev pub DoesAtOnce : Bool → Tile → Tile → Act → Type 0
-DoesAtOnce true old new act = MakesAlone (Some (Exec old.core.thread)) new act × (new.core.status ≡ old.core.status)
+DoesAtOnce true old new act = IsDoneAtOnce old new act
 DoesAtOnce false old new act = new ≡ old
 
--- whether a core's thread executes an instruction in its step: it runs, and no policy holds it up
-abbrev pub runs : Status → Bool
-runs Run = true
-runs _ = false
+-- whether an attempt to do the next instruction at once did it
+abbrev pub is_done : Attempt → Bool
+is_done Done = true
+is_done (Asks access) = false
+is_done Other = false
 
-abbrev pub runs_freely : Config → TileCore → Bool
-runs_freely c core = runs core.status && not (waits_for_limit c.policy core.clock core.limit) && not (looks_around c.policy c.tiles core.clock core.next_check)
+-- what it answers: the instruction is done by its plan; or nothing changed, and its plan may be known to be an access
+abbrev pub Attempts : Setup → Attempt → Tile → Tile → Type 0
+Attempts w Done old new = IsDoneAtOnce old new (follows w old (plan_of w old.core))
+Attempts w (Asks access) old new = (new ≡ old) × (plan_of w old.core ≡ Access access)
+Attempts w Other old new = new ≡ old
 
 -- a tile whose thread has gone past an access that is done, at the same clock and with the same cache
-abbrev pub past : Tile → Asked → Done → Tile
+abbrev pub past : Tile → Asked → DoneAccess → Tile
 past t access done = record t { core = accessed t.core access done; instr = one_more t.instr }
 
 -- a tile whose thread has done an access on the lines of its cache, at the same clock
-abbrev pub with_done : Tile → Asked → Done → Tile
+abbrev pub with_done : Tile → Asked → DoneAccess → Tile
 with_done t access done = record t {
   core = accessed t.core access done;
   cache = with_written t.cache access done.write;

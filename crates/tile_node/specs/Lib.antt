@@ -3,6 +3,7 @@ pub mod Step
 pub mod Deliver
 pub mod OneLine
 pub mod Answers
+pub mod AtOnce
 pub mod Inner
 pub use Rattle.tile_core.specs.Core
 pub use Rattle.tile_core.specs.Plan

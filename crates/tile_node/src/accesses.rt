@@ -2,7 +2,6 @@ ghost use Rattle.std.specs.Prelude.{◌≡◌, ◌+◌, ◌*◌, ◌^◌, ◌<�
 ghost use Rattle.std.specs.Bool.{OnTrue};
 ghost use Rattle.rv_exec.specs.Access.{finish_of};
 ghost use Rattle.sim_base.specs.Saturated.{saturated};
-ghost use Rattle.sim_base.specs.Settings.{IsChecked};
 ghost use Rattle.tile_cache.specs.Cache.{hold_of};
 ghost use Rattle.tile_core.specs.Core.{line_at};
 ghost use Rattle.tile_node.specs.Tile.{suits, is_write, access_class, place_in_line, one_more};
@@ -10,10 +9,10 @@ ghost use Rattle.tile_node.specs.Inner.{with_done, past};
 ghost use Rattle.mesh_model.specs.Cost.{cost_of};
 
 use crate::tile::TileNode;
-use mesh_model::cost;
+use elf_image::World;
 use rv_exec::{Access, AccessOp, Done, finish};
 use rv_hart::reserved;
-use sim_base::{Action, Config, CostClass, Line};
+use sim_base::{Action, CostClass, Line};
 use tile_cache::Hold;
 
 /// The line of an address.
@@ -62,15 +61,15 @@ pub(crate) fn is_write(op: AccessOp) -> bool
 }
 
 /// How many cycles an access takes where its line is there.
-pub(crate) fn access_cost(config: &Config, op: AccessOp) -> u64
-    requires { IsChecked config.now }
-    ensures { result ≡ cost_of config.now (access_class op) }
+#[inline(always)]
+pub(crate) fn access_cost(world: &World, op: AccessOp) -> u64
+    ensures { result ≡ cost_of world.now.config (access_class op) }
 {
     let class = match op {
         AccessOp::Load | AccessOp::Store => CostClass::Mem,
         AccessOp::Lr | AccessOp::Sc | AccessOp::Amo { .. } => CostClass::Amo,
     };
-    cost(config, class)
+    world.cost(class)
 }
 
 /// The clock after a cost and a delay, all in cycles. It stops at 2^64 - 1.

@@ -1,28 +1,54 @@
 //! The steps that most events are: instructions that need nothing but the tile. They are made without a look at the plan.
-ghost use Rattle.std.specs.Prelude.{◌≡◌};
+ghost use Rattle.std.specs.Prelude.{◌≡◌, is_some};
+ghost use Rattle.elf_image.specs.Layout.{instruction};
 ghost use Rattle.rv_exec.specs.declared.access.AccessOp.TheVariants.{Load, Store};
-ghost use Rattle.tile_core.specs.Plan.{plan_of};
-ghost use Rattle.tile_node.specs.Step.{accesses, follows, tile_step, waits_for_limit, looks_around};
-ghost use Rattle.tile_node.specs.Answers.{IsOf, StepsAtOnce};
-ghost use Rattle.tile_node.specs.Inner.{DoesAtOnce, runs_freely};
+ghost use Rattle.tile_cache.specs.Cache.{hold_of, is_m};
+ghost use Rattle.tile_core.specs.Core.{line_at};
+ghost use Rattle.tile_node.specs.Step.{accesses, tile_step, waits_for_limit, looks_around};
+ghost use Rattle.tile_node.specs.Answers.{IsOf};
+ghost use Rattle.tile_node.specs.AtOnce.{StepsAtOnce, executes_at_once, hits_plainly, runs_freely, steps_at_once};
+ghost use Rattle.tile_node.specs.Inner.{Attempts, DoesAtOnce, is_done};
 
 use crate::accesses::{line_at, place_of};
 use crate::steps::{looks_around, waits_for_limit};
 use crate::tile::TileNode;
 use elf_image::World;
-use mesh_model::cost;
-use rv_exec::{Access, AccessOp, Meaning, class, effect, finish};
+use rv_exec::{Access, AccessOp, Meaning, effect, finish};
 use rv_hart::is_allowed;
 use sim_base::Config;
 use tile_core::Status;
 
+/// What came of the attempt to do an instruction at once.
+#[derive(Drop)]
+pub(crate) enum Attempt {
+    /// It is done.
+    Done,
+    /// It is an access, made as it is asked for, that needs more than the tile, or is an atomic. Nothing changed.
+    Asks { access: Access },
+    /// It is something else. Nothing changed.
+    Other,
+}
+
+impl Attempt {
+    /// Whether the instruction is done.
+    #[inline(always)]
+    fn is_done(&self) -> bool
+        ensures { result ≡ is_done self.now }
+    {
+        matches!(self, Attempt::Done)
+    }
+}
+
 impl TileNode {
     /// Makes its step where that is an instruction that needs nothing but the tile, and gives true: the instruction commits,
-    /// nothing is sent, and the tile can step again. Else nothing changes, and [`TileNode::step`] makes the step.
+    /// nothing is sent, and the tile can step again. Such an instruction gives a register a number, loads from a line that the
+    /// cache has, or stores to a line that it has in M; its thread runs, and no policy holds it up. Else nothing changes, and
+    /// [`TileNode::step`] makes the step.
     #[inline(always)]
     pub fn step_at_once(&mut self, world: &World) -> bool
         requires { IsOf world.now self.old }
-        ensures answers { StepsAtOnce result self.old self.new (tile_step world.now self.old) }
+        ensures when { result ≡ steps_at_once world.now self.old }
+        ensures step { StepsAtOnce result self.old self.new (tile_step world.now self.old) }
         ensures fits { IsOf world.now self.new }
         ensures number { self.new.number ≡ self.old.number }
     {
@@ -32,12 +58,12 @@ impl TileNode {
         if !self.runs_freely(world.config()) {
             return false;
         }
-        self.execute_at_once(world)
+        self.execute_at_once(world).is_done()
     }
 
     /// Whether its thread executes an instruction in the step: it runs, and no policy holds it up.
     #[inline(always)]
-    fn runs_freely(&self, config: &Config) -> bool
+    pub(crate) fn runs_freely(&self, config: &Config) -> bool
         ensures { result ≡ runs_freely config.now self.now.core }
     {
         let core = &self.core;
@@ -48,31 +74,38 @@ impl TileNode {
 
     /// Does the next instruction where it needs nothing but the tile.
     #[inline(always)]
-    fn execute_at_once(&mut self, world: &World) -> bool
-        ensures { DoesAtOnce result self.old self.new (follows world.now self.old (plan_of world.now self.old.core)) }
+    pub(crate) fn execute_at_once(&mut self, world: &World) -> Attempt
+        ensures when { is_done result ≡ executes_at_once world.now self.old (instruction world.now self.old.core.pc) }
+        ensures attempts { Attempts world.now result self.old self.new }
     {
-        let Some(instr) = world.instruction(self.core.pc) else {
-            return false;
+        let Some(listed) = world.listed(self.core.pc) else {
+            return Attempt::Other;
         };
-        let meaning = effect(instr, &self.core.regs, self.core.pc);
+        let cost = world.cost(listed.class());
+        let meaning = effect(listed.instr(), &self.core.regs, self.core.pc);
         match &meaning {
             Meaning::Next { rd, value, pc } => {
-                let cost = cost(world.config(), class(instr));
                 self.do_locally(*rd, *value, *pc, cost);
-                true
+                Attempt::Done
             }
             Meaning::Access { access } => {
-                is_allowed(world, self.core.reservation, access)
-                    && self.access_at_once(world, access)
+                if !is_allowed(world, self.core.reservation, access) {
+                    Attempt::Other
+                } else if self.access_at_once(world, access) {
+                    Attempt::Done
+                } else {
+                    Attempt::Asks { access: *access }
+                }
             }
-            Meaning::Call | Meaning::Trap { .. } => false,
+            Meaning::Call | Meaning::Trap { .. } => Attempt::Other,
         }
     }
 
     /// Does a load whose line the cache has, or a store whose line it has in M.
     #[inline(always)]
     fn access_at_once(&mut self, world: &World, access: &Access) -> bool
-        ensures { DoesAtOnce result self.old self.new (accesses world.now self.old access.now) }
+        ensures when { result ≡ hits_plainly self.old access.now }
+        ensures does { DoesAtOnce result self.old self.new (accesses world.now self.old access.now) }
     {
         match access.op() {
             AccessOp::Load => self.load_at_once(world, access),
@@ -85,7 +118,8 @@ impl TileNode {
     #[inline(always)]
     fn load_at_once(&mut self, world: &World, access: &Access) -> bool
         requires { access.now.op ≡ Load }
-        ensures { DoesAtOnce result self.old self.new (accesses world.now self.old access.now) }
+        ensures when { result ≡ is_some (hold_of self.old.cache (line_at access.now.addr)) }
+        ensures does { DoesAtOnce result self.old self.new (accesses world.now self.old access.now) }
     {
         let line = line_at(access.addr());
         let Some(old) = self.cache.read(line, place_of(access), access.size()) else {
@@ -93,7 +127,7 @@ impl TileNode {
         };
         let done = finish(access, old);
         self.go_past(access, &done);
-        self.hit(world.config(), access.op());
+        self.hit(world, access.op());
         true
     }
 
@@ -101,7 +135,8 @@ impl TileNode {
     #[inline(always)]
     fn store_at_once(&mut self, world: &World, access: &Access) -> bool
         requires { access.now.op ≡ Store }
-        ensures { DoesAtOnce result self.old self.new (accesses world.now self.old access.now) }
+        ensures when { result ≡ is_m (hold_of self.old.cache (line_at access.now.addr)) }
+        ensures does { DoesAtOnce result self.old self.new (accesses world.now self.old access.now) }
     {
         let line = line_at(access.addr());
         let done = finish(access, 0);
@@ -115,7 +150,7 @@ impl TileNode {
             return false;
         }
         self.go_past(access, &done);
-        self.hit(world.config(), access.op());
+        self.hit(world, access.op());
         true
     }
 }

@@ -68,36 +68,36 @@ impl TileNode {
         alloc: Global,
         world: &World,
         from: NodeId,
-        msg: Msg,
+        msg: &Msg,
         out: &mut Out,
     ) -> Result<Option<Action>, NoMemory>
         requires fits { IsOf world.now self.old }
-        requires sent { may_send world.now.config from self.old.number msg ≡ true }
-        ensures { Makes result self.old self.new out.old.items out.new.items (taken world.now self.old from msg) }
+        requires sent { may_send world.now.config from self.old.number msg.now ≡ true }
+        ensures { Makes result self.old self.new out.old.items out.new.items (taken world.now self.old from msg.now) }
     {
         match msg {
-            Msg::GetS { line } => self.hear_request(alloc, world, from, line, false, out),
-            Msg::GetM { line } => self.hear_request(alloc, world, from, line, true, out),
-            Msg::PutM { line, content } => self.hear_gift(alloc, world, from, line, &content, out),
-            Msg::InvAck { line } => self.hear_ack(alloc, world, from, line, out),
+            Msg::GetS { line } => self.hear_request(alloc, world, from, *line, false, out),
+            Msg::GetM { line } => self.hear_request(alloc, world, from, *line, true, out),
+            Msg::PutM { line, content } => self.hear_gift(alloc, world, from, *line, content, out),
+            Msg::InvAck { line } => self.hear_ack(alloc, world, from, *line, out),
             Msg::FetchAck { line, content } => {
-                self.hear_answer(alloc, world, from, line, &content, out)
+                self.hear_answer(alloc, world, from, *line, content, out)
             }
             Msg::DataS {
                 line,
                 content,
                 delay,
-            } => self.take_data(world, line, Hold::S, &content, delay, out),
+            } => self.take_data(world, *line, Hold::S, content, *delay, out),
             Msg::DataM {
                 line,
                 content,
                 delay,
-            } => self.take_data(world, line, Hold::M, &content, delay, out),
-            Msg::Inv { line } => self.take_inv(from, line, out),
-            Msg::Fetch { line } => self.take_fetch(from, line, false, out),
-            Msg::FetchInv { line } => self.take_fetch(from, line, true, out),
+            } => self.take_data(world, *line, Hold::M, content, *delay, out),
+            Msg::Inv { line } => self.take_inv(from, *line, out),
+            Msg::Fetch { line } => self.take_fetch(from, *line, false, out),
+            Msg::FetchInv { line } => self.take_fetch(from, *line, true, out),
             Msg::Return { value, time, limit } => {
-                Ok(self.take_return(world, value, time, limit))
+                Ok(self.take_return(world, *value, *time, *limit))
             }
             Msg::Start {
                 thread,
@@ -105,10 +105,10 @@ impl TileNode {
                 arg,
                 time,
                 limit,
-            } => Ok(self.take_start(world, thread, entry, arg, time, limit)),
-            Msg::Limit { limit } => Ok(self.take_limit(limit)),
+            } => Ok(self.take_start(world, *thread, *entry, *arg, *time, *limit)),
+            Msg::Limit { limit } => Ok(self.take_limit(*limit)),
             Msg::Probe => self.take_probe(from, out),
-            Msg::ProbeReply { running, clock } => self.take_reply(world, running, clock, out),
+            Msg::ProbeReply { running, clock } => self.take_reply(world, *running, *clock, out),
             Msg::Call { .. } | Msg::Exit { .. } | Msg::Trapped { .. } | Msg::Reached { .. } => {
                 Ok(None)
             }
@@ -159,7 +159,7 @@ impl TileNode {
     {
         let old = content.load(place_of(access), access.size());
         self.do_access(access, old);
-        let cost = access_cost(world.config(), access.op());
+        let cost = access_cost(world, access.op());
         self.core.clock = delayed(self.core.clock, cost, delay);
         self.core.status = Status::Run;
         Action::Exec {

@@ -1,6 +1,5 @@
 ghost use Rattle.std.specs.Prelude.{◌≡◌, ◌++◌, ◌*◌, ◌^◌, ◌∷◌, [], ◌<◌, ◌≤◌, true, false, Some, IsSome, OnOk, OnErr};
 ghost use Rattle.sim_base.specs.Numbering.{control_node};
-ghost use Rattle.sim_base.specs.Settings.{IsChecked};
 ghost use Rattle.rv_exec.specs.Access.{finish_of};
 ghost use Rattle.tile_cache.specs.Cache.{hold_of, touched};
 ghost use Rattle.tile_core.specs.Core.{line_at, next_byte};
@@ -23,7 +22,7 @@ use tile_core::{Plan, Status};
 use wire_msg::{Call, Msg, Out};
 
 /// Whether a core reads the bytes of a write.
-pub(crate) fn is_writing(status: &Status) -> bool
+fn is_writing(status: &Status) -> bool
     ensures { result ≡ is_writing status.now }
 {
     matches!(status, Status::Writing)
@@ -301,7 +300,7 @@ impl TileNode {
     }
 
     /// A data access: done at once where the cache has its line as the access needs it.
-    fn access(
+    pub(crate) fn access(
         &mut self,
         world: &World,
         access: Access,
@@ -320,7 +319,7 @@ impl TileNode {
         let old = way.content.load(place_of(&access), access.size());
         self.cache.touch(line);
         self.do_access(&access, old);
-        self.hit(world.config(), op);
+        self.hit(world, op);
         Ok(Some(Action::Exec {
             thread: self.core.thread,
         }))
@@ -328,11 +327,10 @@ impl TileNode {
 
     /// An access of this kind was done at its step, and takes what such an access costs.
     #[inline(always)]
-    pub(crate) fn hit(&mut self, config: &Config, op: AccessOp)
-        requires { IsChecked config.now }
-        ensures { self.new ≡ after_hit config.now self.old op }
+    pub(crate) fn hit(&mut self, world: &World, op: AccessOp)
+        ensures { self.new ≡ after_hit world.now.config self.old op }
     {
-        let cost = access_cost(config, op);
+        let cost = access_cost(world, op);
         self.core.clock = self.core.clock.saturating_add(cost);
         self.hits = self.hits.saturating_add(1);
     }

@@ -3,9 +3,11 @@ ghost use Rattle.sim_base.specs.Settings.{IsChecked};
 ghost use Rattle.tile_cache.specs.Cache.{empty_cache};
 ghost use Rattle.tile_node.specs.Tile.{first_core};
 
+use crate::at_once::Attempt;
 use clock_policy::Probes;
 use dir_slice::Dir;
 use elf_image::World;
+use rv_exec::Access;
 use sim_base::{Action, Config, Line, NoMemory, NodeId};
 use std::alloc::Global;
 use std::marker::Model;
@@ -66,7 +68,7 @@ pub struct TileCounts {
 impl TileNode {
     ghost use Rattle.tile_cache.specs.Cache.{hold_of};
     ghost use Rattle.tile_node.specs.Tile.{start_tile, counts_of};
-    ghost use Rattle.tile_node.specs.Step.{can_step, tile_step};
+    ghost use Rattle.tile_node.specs.Step.{accesses, can_step, tile_step};
     ghost use Rattle.tile_node.specs.Deliver.{tile_delivered};
     ghost use Rattle.tile_node.specs.Answers.{IsOf, Answers};
 
@@ -119,11 +121,39 @@ impl TileNode {
         if self.spent {
             return Err(NoMemory);
         }
-        let thread = self.core.thread;
-        if self.step_at_once(world) {
-            return Ok(Some(Action::Exec { thread }));
+        if !self.runs_freely(world.config()) {
+            return self.step_by_rules(alloc, world, out);
         }
-        self.step_by_rules(alloc, world, out)
+        let thread = self.core.thread;
+        match self.execute_at_once(world) {
+            Attempt::Done => Ok(Some(Action::Exec { thread })),
+            Attempt::Asks { access } => self.step_by_access(world, access, out),
+            Attempt::Other => self.step_by_rules(alloc, world, out),
+        }
+    }
+
+    /// Its step, which is an access.
+    #[tactic(auto, using(crate::proofs::Fits::step_fits, crate::proofs::Fits::kept_fits, crate::proofs::OneLinePlain::step_keeps_number))]
+    fn step_by_access(
+        &mut self,
+        world: &World,
+        access: Access,
+        out: &mut Out,
+    ) -> Result<Option<Action>, NoMemory>
+        requires able { self.old.spent ≡ false }
+        requires fits { IsOf world.now self.old }
+        requires step { tile_step world.now self.old ≡ accesses world.now self.old access }
+        ensures answers { Answers result self.old self.new out.old.items out.new.items (tile_step world.now self.old) }
+        ensures fits { IsOf world.now self.new }
+        ensures number { self.new.number ≡ self.old.number }
+    {
+        match self.access(world, access, out) {
+            Ok(action) => Ok(action),
+            Err(error) => {
+                self.spent = true;
+                Err(error)
+            }
+        }
     }
 
     /// Its step, by the rules.
@@ -153,7 +183,6 @@ impl TileNode {
     /// It takes a message from a node: one row of its table. A message from a node that may not send it changes nothing,
     /// nor does one that no row names. It appends what the tile sends, and gives the action of the flat machine that
     /// commits, if one does.
-    #[tactic(auto, using(crate::proofs::Fits::taken_fits, crate::proofs::Fits::kept_fits, crate::proofs::OneLineHomes::taken_keeps_number))]
     pub fn deliver(
         &mut self,
         alloc: Global,
@@ -164,6 +193,24 @@ impl TileNode {
     ) -> Result<Option<Action>, NoMemory>
         requires { IsOf world.now self.old }
         ensures answers { Answers result self.old self.new out.old.items out.new.items (tile_delivered world.now self.old from msg) }
+        ensures fits { IsOf world.now self.new }
+        ensures number { self.new.number ≡ self.old.number }
+    {
+        self.deliver_lent(alloc, world, from, &msg, out)
+    }
+
+    /// It takes a message, which is lent, from a node, as [`TileNode::deliver`] does.
+    #[tactic(auto, using(crate::proofs::Fits::taken_fits, crate::proofs::Fits::kept_fits, crate::proofs::OneLineHomes::taken_keeps_number))]
+    pub fn deliver_lent(
+        &mut self,
+        alloc: Global,
+        world: &World,
+        from: NodeId,
+        msg: &Msg,
+        out: &mut Out,
+    ) -> Result<Option<Action>, NoMemory>
+        requires { IsOf world.now self.old }
+        ensures answers { Answers result self.old self.new out.old.items out.new.items (tile_delivered world.now self.old from msg.now) }
         ensures fits { IsOf world.now self.new }
         ensures number { self.new.number ≡ self.old.number }
     {

@@ -9,4 +9,4 @@ pub returns-clause-tile : goal.returns-clause-tile
 returns-clause-tile c =
     access_ended c.args.world.now _ c.args.self.now c.args.access.now c.args.content.now c.args.delay c.load-old.result c.place_of.result c.size.result c.access_cost-cost.result c.delayed-self-inside.result
     (c.self.view_is ∙ c.do_access.ensures) c.load-old.ensures.value c.place_of.ensures.place c.size.ensures.value
-    (c.access_cost-cost.ensures ∙ ap (λ s. cost_of s (access_class c.op.result)) c.config.ensures.value ∙ ap (λ o. cost_of c.args.world.now.config (access_class o)) c.op.ensures.value) c.delayed-self-inside.ensures
+    (c.access_cost-cost.ensures ∙ ap (λ o. cost_of c.args.world.now.config (access_class o)) c.op.ensures.value) c.delayed-self-inside.ensures

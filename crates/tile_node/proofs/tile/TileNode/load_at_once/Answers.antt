@@ -2,8 +2,8 @@
 use Rattle.tile_node.proofs.Hits.{load_makes}
 use Rattle.tile_node.proofs.tile.TileNode.load_at_once.Goals as goal
 
-pub returns : goal.returns
-returns c =
+pub returns-clause-does : goal.returns-clause-does
+returns-clause-does c =
     load_makes c.args.world.now _ _ c.self.view_is c.hit.new.self c.args.access.now c.op.result c.line_at-line.result c.addr.result c.place_of.result c.size.result c.in-Some.old c.read.new.self
-    c.finish-done.result c.go_past.new.self c.config.result.now c.requires c.op.ensures.value c.line_at-line.ensures c.addr.ensures.value c.place_of.ensures.place c.size.ensures.value
-    c.in-Some.ensures.number c.read.ensures.cache c.finish-done.ensures c.go_past.ensures c.config.ensures.value c.hit.ensures
+    c.finish-done.result c.go_past.new.self c.requires c.op.ensures.value c.line_at-line.ensures c.addr.ensures.value c.place_of.ensures.place c.size.ensures.value
+    c.in-Some.ensures.number c.read.ensures.cache c.finish-done.ensures c.go_past.ensures c.hit.ensures
