@@ -3,6 +3,7 @@ use Rattle.std.specs.Prelude.{ℕ, ◌≡◌, ◌≤◌, ◌<◌, ◌&&◌, not,
 use Rattle.std.specs.List.{list_any, range_with_len}
 use Rattle.sim_base.specs.declared.actions.Action.{Action}
 use Rattle.sim_base.specs.declared.ends.End.{End}
+use Rattle.sim_base.specs.declared.memory.NoMemory.{NoMemory as MemoryFault}
 use Rattle.sim_base.specs.Numbering.{node_count}
 use Rattle.elf_image.specs.Layout.{Setup}
 use Rattle.wire_msg.specs.declared.envelopes.Envelope.{Envelope}
@@ -113,6 +114,11 @@ Applies w event (Ok action) old new = (old.spent ≡ false) × (new.spent ≡ fa
 Applies w event (Err NotEnabled) old new =
     (old.spent ≡ false) × (new ≡ old) × ((s : State Node Msg) → Shows old s → can_happen (rules w) (node_count w.config) s event ≡ false)
 Applies w event (Err NoMemory) old new = new.spent ≡ true
+
+-- what making an event answers that is enabled
+abbrev pub AppliesEnabled : Setup → Event → Result (Option Action) MemoryFault → CoreData → CoreData → Type 0
+AppliesEnabled w event (Ok action) old new = (new.spent ≡ false) × ((s : State Node Msg) → Shows old s → IsMade w event action old new s)
+AppliesEnabled w event (Err e) old new = new.spent ≡ true
 
 -- what is read of it, at a number that has no node as of a node of another kind
 abbrev pub counts_at : Option Node → TileCounts

@@ -9,6 +9,8 @@ use Rattle.event_journal.specs.declared.events.Event.{Event}
 use Rattle.event_journal.specs.declared.events.Event.TheVariants.{Step, Deliver}
 use Rattle.event_journal.specs.Event.{acting_node}
 use Rattle.node_machine.specs.declared.nodes.Node.{Node}
+use Rattle.node_machine.specs.declared.nodes.Node.TheVariants.{Tile, Control, Local}
+use Rattle.tile_node.specs.AtOnce.{steps_at_once}
 use Rattle.node_machine.specs.Pending.{Inbox, PendingData, queue_in, with_rest, first_of, rest_of, with_messages}
 use Rattle.node_machine.specs.Machine.{Act, quiet, can_step, node_step, node_delivered, IsNode}
 use Rattle.node_machine.specs.Alone.{stepped}
@@ -57,15 +59,37 @@ AreBelow count envelope = (envelope.from < count) × (envelope.to < count)
 
 -- steps of one node
 
--- a step that is made at once, or not
+-- a step that is made at once, after which the node can step again, or nothing changes
+pub record IsMadeAtOnce (w : Setup) (old new : Node) : Type 0 where
+  pub node : new ≡ (node_step w old).node
+  pub quiet : (node_step w old).sent ≡ []
+  pub again : can_step new ≡ true
+
 abbrev pub NodeStepsAtOnce : Setup → Bool → Node → Node → Type 0
-NodeStepsAtOnce w true old new = (new ≡ (node_step w old).node) × ((node_step w old).sent ≡ []) × (can_step new ≡ true)
+NodeStepsAtOnce w true old new = IsMadeAtOnce w old new
 NodeStepsAtOnce w false old new = new ≡ old
 
+-- whether a node's step is made at once: a tile's, where it needs nothing but the tile
+abbrev pub node_steps_at_once : Setup → Node → Bool
+node_steps_at_once w (Tile tile) = steps_at_once w tile
+node_steps_at_once w (Control control) = false
+node_steps_at_once w (Local local) = false
+
 -- one step, and whether the node can go on: nothing was sent, and it can step again
+pub record GoesOn (w : Setup) (old new : Node) (mail : List (ℕ × Msg)) : Type 0 where
+  pub node : new ≡ (node_step w old).node
+  pub sent : mail ≡ (node_step w old).sent
+  pub none : mail ≡ []
+  pub again : can_step new ≡ true
+
+pub record Stops (w : Setup) (old new : Node) (mail : List (ℕ × Msg)) : Type 0 where
+  pub node : new ≡ (node_step w old).node
+  pub sent : mail ≡ (node_step w old).sent
+  pub stops : mail ≡ [] → can_step new ≡ false
+
 abbrev pub StepsOnce : Setup → Result Bool NoMemory → Node → Node → List (ℕ × Msg) → Type 0
-StepsOnce w (Ok true) old new mail = (new ≡ (node_step w old).node) × (mail ≡ (node_step w old).sent) × (mail ≡ []) × (can_step new ≡ true)
-StepsOnce w (Ok false) old new mail = (new ≡ (node_step w old).node) × (mail ≡ (node_step w old).sent) × (mail ≡ [] → can_step new ≡ false)
+StepsOnce w (Ok true) old new mail = GoesOn w old new mail
+StepsOnce w (Ok false) old new mail = Stops w old new mail
 StepsOnce w (Err e) old new mail = Unit {0}
 
 -- so many steps of a node can be made one after the other, and none but the last sends anything

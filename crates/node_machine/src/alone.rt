@@ -3,7 +3,7 @@ ghost use Rattle.node_machine.specs.Machine.{can_step, IsNode};
 ghost use Rattle.node_machine.specs.Pending.{AreInboxes};
 ghost use Rattle.node_machine.specs.Core.{IsCore};
 ghost use Rattle.node_machine.specs.Alone.{StepsOn};
-ghost use Rattle.node_machine.specs.Inner.{AreNodes, CanStepAt, NodeStepsAtOnce, StepsOnce, NodeStepsOn, HaveStepped};
+ghost use Rattle.node_machine.specs.Inner.{AreNodes, CanStepAt, NodeStepsAtOnce, node_steps_at_once, StepsOnce, NodeStepsOn, HaveStepped};
 
 use crate::cores::{ApplyFault, Core};
 use crate::making::{count_events, post};
@@ -115,6 +115,7 @@ impl Node {
     #[inline(always)]
     fn step_at_once(&mut self, world: &World, id: NodeId) -> bool
         requires { IsNode world.now id self.old }
+        ensures when { result ≡ node_steps_at_once world.now self.old }
         ensures step { NodeStepsAtOnce world.now result self.old self.new }
         ensures fits { IsNode world.now id self.new }
     {
@@ -125,7 +126,9 @@ impl Node {
     }
 }
 
-/// Makes steps of one of the nodes, which can step; what the last one sends joins the lists.
+/// Makes steps of one of the nodes, which can step; what the last one sends joins the lists. The loop is a function of its own
+/// in the machine code, with all registers for itself.
+#[inline(never)]
 fn step_all(
     alloc: Global,
     world: &World,

@@ -1,5 +1,6 @@
-ghost use Rattle.std.specs.Prelude.{◌≡◌, All, IfOk};
-ghost use Rattle.node_machine.specs.Core.{AreIn, AreParts, core_of, start_core, IsCore, Applies};
+ghost use Rattle.std.specs.Prelude.{◌≡◌, All, IfOk, true, false};
+ghost use Rattle.node_machine.specs.declared.cores.ApplyFault.TheVariants.{NoMemory as OutOfMemory};
+ghost use Rattle.node_machine.specs.Core.{AreIn, AreParts, core_of, start_core, IsCore, is_enabled_in, Applies, AppliesEnabled};
 
 use crate::making::{count_events, is_full, make, pending_of};
 use crate::nodes::Node;
@@ -18,6 +19,14 @@ pub enum ApplyFault {
     NotEnabled,
     /// Memory ran out.
     NoMemory,
+}
+
+impl From<NoMemory> for ApplyFault {
+    ghost from_gives = { λ _ e. e ≡ OutOfMemory };
+
+    fn from(_error: NoMemory) -> ApplyFault {
+        ApplyFault::NoMemory
+    }
 }
 
 /// The whole machine between two events: its nodes, the messages that wait from each to each, and how many events each
@@ -122,17 +131,32 @@ impl Core {
         if !self.is_enabled(event) {
             return Err(ApplyFault::NotEnabled);
         }
+        Ok(self.apply_enabled(alloc, world, event)?)
+    }
+
+    /// Makes an event that is enabled, and gives the action that it commits, if it does.
+    #[inline]
+    pub fn apply_enabled(
+        &mut self,
+        alloc: Global,
+        world: &World,
+        event: Event,
+    ) -> Result<Option<Action>, NoMemory>
+        requires fits { IsCore world.now self.old }
+        requires able { self.old.spent ≡ false }
+        requires enabled { is_enabled_in self.old event ≡ true }
+        ensures applies { AppliesEnabled world.now event result self.old self.new }
+        ensures fits { IsCore world.now self.new }
+    {
         self.spent = true;
-        let Ok(action) = make(
+        let action = make(
             alloc,
             world,
             event,
             &mut self.nodes,
             &mut self.pending,
             &mut self.out,
-        ) else {
-            return Err(ApplyFault::NoMemory);
-        };
+        )?;
         count_events(&mut self.made, &mut self.full, event.node(), 1, self.room);
         self.spent = false;
         Ok(action)

@@ -1,7 +1,8 @@
 ghost use Rattle.std.specs.Prelude.{◌≡◌, ◌<◌, ◌≤◌, ◌+◌, [], All, length, map, nat_le, slice_set, slice_index, IfOk, OnOk};
 ghost use Rattle.event_journal.specs.Event.{acting_node};
 ghost use Rattle.node_machine.specs.Machine.{can_step, Acts, IsNode};
-ghost use Rattle.node_machine.specs.Pending.{nothing_pending, with_message, with_messages, AreInboxes};
+ghost use Rattle.node_machine.specs.declared.nodes.Node.TheVariants.{Tile};
+ghost use Rattle.node_machine.specs.Pending.{nothing_pending, with_message, with_messages, AreInboxes, first_of, queue_in, rest_of, with_rest};
 ghost use Rattle.node_machine.specs.Core.{with_envelopes, is_full};
 ghost use Rattle.node_machine.specs.Inner.{AreNodes, AreBelow, CanBeMade, CanStep, event_act, taken_act, inboxes_left, HasMade};
 
@@ -11,6 +12,7 @@ use elf_image::World;
 use event_journal::Event;
 use sim_base::{Action, NoMemory, NodeId};
 use std::alloc::Global;
+use tile_node::TileNode;
 use wire_msg::{Envelope, Msg, Out};
 
 /// Makes an event of one of the nodes, which can make it: the node acts, and what it sends joins the lists.
@@ -60,10 +62,37 @@ fn act(
     match event {
         Event::Step { node: id } => node.step(alloc, world, id, out),
         Event::Deliver { from, node: id } => {
+            if let Node::Tile { tile } = node {
+                return hand_over(alloc, world, id, tile, from, pending, out);
+            }
             let msg = pending.pop(from, id);
             take(alloc, world, id, node, from, msg, out)
         }
     }
+}
+
+/// A tile takes the first message of a sender, if there is one. The message is lent to it where it waits, since tiles keep no
+/// message, and it is only then dropped.
+fn hand_over(
+    alloc: Global,
+    world: &World,
+    id: NodeId,
+    tile: &mut TileNode,
+    from: NodeId,
+    pending: &mut Pending,
+    out: &mut Out,
+) -> Result<Option<Action>, NoMemory>
+    requires fits { IsNode world.now id (Tile tile.old) }
+    ensures acts { Acts result (Tile tile.new) out.old.items out.new.items (taken_act world.now (Tile tile.old) from (first_of (queue_in pending.old.inboxes from id))) }
+    ensures fits { IsNode world.now id (Tile tile.new) }
+    ensures pending { pending.new ≡ record pending.old { inboxes = with_rest from id (rest_of (queue_in pending.old.inboxes from id)) pending.old.inboxes } }
+{
+    let result = match pending.first(from, id) {
+        Some(msg) => tile.deliver_lent(alloc, world, from, msg, out),
+        None => Ok(None),
+    };
+    let _ = pending.pop(from, id);
+    result
 }
 
 /// A node takes a message from a sender, if there is one.
@@ -132,6 +161,7 @@ fn post_each(from: NodeId, out: &mut Out, pending: &mut Pending) -> Result<(), N
 }
 
 /// A message from a node joins its list. One for a node that isn't there is dropped.
+#[inline(always)]
 fn post_one(from: NodeId, to: NodeId, msg: Msg, pending: &mut Pending) -> Result<(), NoMemory>
     requires from { from < length pending.old.inboxes }
     requires inboxes { AreInboxes (length pending.old.inboxes) pending.old.inboxes }

@@ -1,5 +1,5 @@
 ghost use Rattle.std.specs.Prelude.{◌≡◌, ◌<◌, ◌++◌, ◌∷◌, [], not, length, replicate, position, remove, is_some, Some, slice_get, slice_set, slice_index_or, IfOk, OnOk, OnErr, false, if◌then◌else◌};
-ghost use Rattle.std.specs.Option.{option_map};
+ghost use Rattle.std.specs.Option.{option_copied, option_map};
 ghost use Rattle.event_journal.specs.State.{is_empty};
 ghost use Rattle.node_set.specs.NodeSet.{with_node, without};
 ghost use Rattle.node_machine.specs.Pending.{queue_from, senders_in, with_queue_from, inbox_of, queue_in, can_act_in, acting_in, nothing_pending, with_message, first_of, rest_of, with_rest};
@@ -63,8 +63,17 @@ impl Inbox {
         Ok(())
     }
 
-    /// Takes the first message of a sender, where one waits.
+    /// Lends the first message of a sender, where one waits.
     #[inline]
+    pub(crate) fn first(&self, from: NodeId) -> Option<&Msg>
+        ensures { option_copied result ≡ first_of (queue_from self.now from) }
+    {
+        let place = place_of(&self.mail, from)?;
+        Some(&self.mail[place].msg)
+    }
+
+    /// Takes the first message of a sender, where one waits.
+    #[inline(always)]
     pub(crate) fn pop(&mut self, from: NodeId) -> Option<Msg>
         ensures message { result ≡ first_of (queue_from self.old from) }
         ensures rest { self.new ≡ with_queue_from self.old from (rest_of (queue_from self.old from)) }
@@ -176,8 +185,16 @@ impl Pending {
         Ok(())
     }
 
-    /// Takes the first message from a node to another, where one waits. With it gone the other may no longer be able to act.
+    /// Lends the first message from a node to another, where one waits.
     #[inline]
+    pub(crate) fn first(&self, from: NodeId, to: NodeId) -> Option<&Msg>
+        ensures { option_copied result ≡ first_of (queue_in self.now.inboxes from to) }
+    {
+        self.inboxes.get(to as usize)?.first(from)
+    }
+
+    /// Takes the first message from a node to another, where one waits. With it gone the other may no longer be able to act.
+    #[inline(always)]
     pub(crate) fn pop(&mut self, from: NodeId, to: NodeId) -> Option<Msg>
         ensures message { result ≡ first_of (queue_in self.old.inboxes from to) }
         ensures rest { self.new ≡ record self.old { inboxes = with_rest from to (rest_of (queue_in self.old.inboxes from to)) self.old.inboxes } }

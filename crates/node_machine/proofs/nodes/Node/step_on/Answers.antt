@@ -22,15 +22,15 @@ pub returns-then-not-branch-clause-steps : goal.returns-then-not-branch-clause-s
 returns-then-not-branch-clause-steps c =
     let w = c.args.world.now in
     let made : StepsOnce w (Ok false) c.loop-done.self c.step_once.new.self c.step_once.new.out.items = rw c.if-not-branch.true at c.in_ok-step_once.ensures.step in
-    ends_after w c.args.self.now c.loop-done.self c.step_once.new.self c.loop-done.done c.loop-done.invariant.so_far made.0 c.args.most c.step_once.new.out.items (omega arith) made.1
-    (λ _. made.2)
+    ends_after w c.args.self.now c.loop-done.self c.step_once.new.self c.loop-done.done c.loop-done.invariant.so_far made.node c.args.most c.step_once.new.out.items (omega arith) made.sent
+    (λ _. made.stops)
 
 pub loop-done-preserved : goal.loop-done-preserved
 loop-done-preserved c =
     let w = c.args.world.now in
     let made : StepsOnce w (Ok true) c.loop-done.self c.step_once.new.self c.step_once.new.out.items = rw c.if-not-branch.false at c.in_ok-step_once.ensures.step in
     record {
-      so_far = one_more_step w c.args.self.now c.loop-done.self c.step_once.new.self c.loop-done.done c.loop-done.invariant.so_far made.0 (sym made.1 ∙ made.2) made.3;
+      so_far = one_more_step w c.args.self.now c.loop-done.self c.step_once.new.self c.loop-done.done c.loop-done.invariant.so_far made.node (sym made.sent ∙ made.none) made.again;
       fits = c.in_ok-step_once.ensures.fits;
-      none = made.2;
+      none = made.none;
     }
