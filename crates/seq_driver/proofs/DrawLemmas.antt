@@ -2,7 +2,7 @@
 use Rattle.std.proofs.Common.{◌≡◌, ℕ, zero, suc, ◌+◌, ◌*◌, ◌<◌, ◌≤◌, Bool, true, false, List, [], ◌∷◌, ◌++◌, length, refl, sym, ap, subst, ◌∙◌, arith, inl, inr}
 use Rattle.std.specs.Prelude.{Option, Some, None, Err, ◌||◌, nat_le, slice_get}
 use Rattle.std.specs.List.{range_with_len, list_any}
-use Rattle.std.proofs.lemmas.Bool.{cases_Bool, true≢false}
+use Rattle.std.proofs.lemmas.Bool.{cases_Bool}
 use Rattle.std.proofs.lemmas.Bool.Decides.{nat_tests, eqb_tells}
 use Rattle.std.proofs.lemmas.Option.{same_Some, none-some}
 use Rattle.rand_pcg.specs.Lcg.{Lcg}
@@ -21,9 +21,9 @@ use Rattle.node_machine.specs.declared.nodes.Node.{Node}
 use Rattle.node_machine.specs.Machine.{rules, can_step, start_node, start_state}
 use Rattle.node_machine.specs.Reading.{ended_of_node}
 use Rattle.node_machine.specs.End.{end_of, end_by, is_used_up}
-use Rattle.node_machine.specs.Core.{CoreData, Shows, IsCore, IsMade, Applies, steps_at, senders_in, end_in, start_core}
 use Rattle.node_machine.specs.declared.cores.ApplyFault.{ApplyFault}
 use Rattle.node_machine.specs.declared.cores.ApplyFault.TheVariants.{NotEnabled}
+use Rattle.node_machine.specs.Core.{CoreData, Shows, IsCore, IsMade, Applies, is_enabled_in, steps_at, senders_in, end_in, start_core}
 use Rattle.node_machine.specs.Shown.{ReadsAsShown}
 use Rattle.node_machine.proofs.ShownLemmas.{shown_is_read}
 use Rattle.seq_driver.specs.Picked.{start_stream, next_word, after_word, after_draw, picked, choice_of, drawn_event, AreDrawn}
@@ -170,8 +170,8 @@ module _ (w : Setup) (core : CoreData) (g : Lcg) (events : List Event) (under : 
     event_can : can_happen (rules w) (node_count w.config) (state_after w events) event ≡ true
     event_can = drawn_happens w (state_after w events) g event (sym state_end ∙ no_end) drawn_here
 
-    pub not_refused : ((s : State Node Msg) → Shows core s → can_happen (rules w) (node_count w.config) s event ≡ false) → ⊥
-    not_refused refused = true≢false (sym event_can ∙ refused (state_after w events) under.shows)
+    pub is_enabled : is_enabled_in core event ≡ true
+    is_enabled = (shown_is_read w core (state_after w events) under.fits under.shows).enabled event ∙ event_can
 
     pub run_goes_on : (new : CoreData) (action : Option Action) → IsCore w new → new.spent ≡ false
         → ((s : State Node Msg) → Shows core s → IsMade w event action core new s)

@@ -1,6 +1,6 @@
 -- While one node alone can act, and its steps send nothing, the stream draws these steps, whatever its words are.
-use Rattle.std.proofs.Common.{◌≡◌, ℕ, zero, suc, ◌+◌, ◌*◌, ◌%◌, ◌<◌, ◌≤◌, Bool, true, false, List, [], ◌∷◌, ◌++◌, length, map, refl, sym, ap, subst, ◌∙◌, arith, inl, inr, eq-eqb, length-append, append-nil}
-use Rattle.std.proofs.lemmas.List.{append_assoc}
+use Rattle.std.proofs.Common.{◌≡◌, ℕ, zero, suc, ◌+◌, ◌-◌, ◌*◌, ◌%◌, ◌<◌, ◌≤◌, Bool, true, false, List, [], ◌∷◌, ◌++◌, length, map, replicate, take, refl, sym, ap, subst, ◌∙◌, arith, inl, inr, eq-eqb, length-append, append-nil}
+use Rattle.std.proofs.lemmas.List.{append_assoc, take_all}
 use Rattle.std.specs.Prelude.{Some, None, Ok, Err, cond, ◌||◌, ◌==◌, not, nat_lt, nat_le, slice_get}
 use Rattle.std.specs.List.{range_with_len, list_any}
 use Rattle.std.proofs.lemmas.Bool.{and_parts, true≢false}
@@ -154,24 +154,19 @@ unfolding steps_of
 steps_length node zero = refl
 steps_length node (suc n) = ap suc (steps_length node n)
 
-pub steps_suc : (node n : ℕ) → steps_of node (suc n) ≡ steps_of node n ++ Step node ∷ []
+-- so many steps are one, so many times
+steps_are : (node n : ℕ) → replicate n (Step node) ≡ steps_of node n
 unfolding steps_of
-steps_suc node zero = refl
-steps_suc node (suc n) = ap (λ xs. Step node ∷ xs) (steps_suc node n)
+steps_are node zero = refl
+steps_are node (suc n) = ap (λ events. Step node ∷ events) (steps_are node n)
 
-pub steps_more : (node n : ℕ) → steps_of node (n + 1) ≡ steps_of node n ++ Step node ∷ []
-steps_more node n = let next : n + 1 ≡ suc n = omega arith in ap (steps_of node) next ∙ steps_suc node n
-
-pub no_steps : (node : ℕ) → steps_of node 0 ≡ []
-unfolding steps_of
-no_steps node = refl
-
--- so many steps so far, one more
-pub noted_more : (events : List Event) (node n : ℕ) → (events ++ steps_of node n) ++ Step node ∷ [] ≡ events ++ steps_of node (n + 1)
-noted_more events node n = append_assoc events (steps_of node n) (Step node ∷ []) ∙ ap (λ xs. events ++ xs) (sym (steps_more node n))
-
-pub none_noted : (events : List Event) (node : ℕ) → events ≡ events ++ steps_of node 0
-none_noted events node = sym (ap (λ xs. events ++ xs) (no_steps node) ∙ append-nil events)
+-- events with so many steps behind them
+pub noted : (events : List Event) (node n all size : ℕ) → size ≡ length events → all ≡ size + n
+    → take all events ++ replicate (all - size) (Step node) ≡ events ++ steps_of node n
+noted events node n all size sized total =
+    let rest : all - size ≡ n = omega (arith, total) in
+    let whole : take all events ≡ events = take_all all events (omega (arith, sized, total)) in
+    ap (λ xs. xs ++ replicate (all - size) (Step node)) whole ∙ ap (λ k. events ++ replicate k (Step node)) rest ∙ ap (λ xs. events ++ xs) (steps_are node n)
 
 -- to draw once more is to pass two words more
 draw_more : (n : ℕ) (g : Lcg) → advance 64 multiplier_64 (2 * n) (after_draw g) ≡ advance 64 multiplier_64 (2 * suc n) g

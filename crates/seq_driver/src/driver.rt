@@ -1,10 +1,10 @@
-ghost use Rattle.std.specs.Prelude.{◌≡◌, ◌+◌, ◌*◌, ◌++◌, None, OnOk, OnErr, Err};
+ghost use Rattle.std.specs.Prelude.{◌≡◌, ◌+◌, ◌*◌, ◌++◌, None, OnOk, OnErr, Err, length};
 ghost use Rattle.sim_base.specs.Numbering.{node_count};
 ghost use Rattle.sim_base.specs.Settings.{IsChecked};
 ghost use Rattle.seq_driver.specs.declared.driver.DriveFault.TheVariants.{NoMemory as OutOfMemory};
 ghost use Rattle.seq_driver.specs.Driven.{Drives};
 ghost use Rattle.seq_driver.specs.Inner.{IsUnderWay, IsDrawing, IsLone, GoesOn, after_draws};
-ghost use Rattle.node_machine.specs.Core.{end_in};
+ghost use Rattle.node_machine.specs.Core.{acting_in, end_in};
 ghost use Rattle.node_machine.specs.Alone.{steps_of};
 
 use crate::picking::{Stream, drawn_event, lone_stepper};
@@ -83,33 +83,33 @@ fn go_on(
     requires no_end { end_in core.old ≡ None }
     ensures { GoesOn world.now result core.new stream.new journal.old journal.new }
 {
-    match lone_stepper(core) {
+    let count = core.acting().len();
+    match lone_stepper(core, count) {
         Some(node) => step_on(alloc, world, core, stream, journal, node),
-        None => draw_one(alloc, world, core, stream, journal),
+        None => draw_one(alloc, world, core, stream, journal, count),
     }
 }
 
-/// Makes the event that the stream draws.
+/// Makes the event that the stream draws, where so many nodes can act.
 fn draw_one(
     alloc: Global,
     world: &World,
     core: &mut Core,
     stream: &mut Stream,
     journal: &mut Journal,
+    count: usize,
 ) -> Result<(), DriveFault>
+    requires count { count ≡ length (acting_in core.old) }
     requires under_way { IsUnderWay world.now core.old journal.old }
     requires drawing { IsDrawing world.now stream.old journal.old }
     requires no_end { end_in core.old ≡ None }
     ensures { GoesOn world.now result core.new stream.new journal.old journal.new }
 {
-    let Some(event) = drawn_event(core, stream) else {
+    let Some(event) = drawn_event(core, stream, count) else {
         return Err(DriveFault::Stuck);
     };
-    match core.apply(alloc, world, event) {
-        Ok(_) => journal.events.push(event)?,
-        Err(ApplyFault::NotEnabled) => return Err(DriveFault::Stuck),
-        Err(ApplyFault::NoMemory) => return Err(DriveFault::NoMemory),
-    }
+    core.apply_enabled(alloc, world, event)?;
+    journal.events.push(event)?;
     Ok(())
 }
 
@@ -147,9 +147,8 @@ fn note_steps(
     ensures stream { OnOk result (stream.new ≡ after_draws stream.old (steps_of node count)) }
     ensures memory { OnErr result (result ≡ Err OutOfMemory) }
 {
-    for _ in 0..count {
-        journal.events.push(Event::Step { node })?;
-    }
+    let all = journal.events.len() + count as usize;
+    journal.events.resize(all, Event::Step { node })?;
     stream.pass(node, count);
     Ok(())
 }

@@ -1,4 +1,5 @@
-ghost use Rattle.std.specs.Prelude.{◌≡◌, ◌*◌, ◌%◌, ◌<◌, None, IfOk, IfSome, false};
+ghost use Rattle.std.specs.Prelude.{◌≡◌, ◌*◌, ◌%◌, ◌<◌, None, IfOk, IfSome, false, length};
+ghost use Rattle.node_machine.specs.Core.{acting_in};
 ghost use Rattle.seq_driver.specs.Picked.{start_stream, next_word, after_word, after_draw, picked};
 ghost use Rattle.node_machine.specs.Alone.{steps_of};
 ghost use Rattle.seq_driver.specs.Inner.{choices_in, drawn_in, after_draws, IsLone};
@@ -61,16 +62,19 @@ impl Stream {
     }
 }
 
-/// The event that the stream's next two words pick, if some node can act.
-pub(crate) fn drawn_event(core: &Core, stream: &mut Stream) -> Option<Event>
-    requires { core.now.spent ≡ false }
+/// The event that the stream's next two words pick, if some node can act. So many can.
+#[inline]
+pub(crate) fn drawn_event(core: &Core, stream: &mut Stream, count: usize) -> Option<Event>
+    requires able { core.now.spent ≡ false }
+    requires count { count ≡ length (acting_in core.now) }
     ensures event { result ≡ drawn_in core.now stream.old }
     ensures after { stream.new ≡ after_draw stream.old }
 {
     let first = stream.next();
     let second = stream.next();
     let divisors = &stream.divisors;
-    let node = picked(divisors, core.acting(), first)?;
+    let place = place_of(divisors, first, count)?;
+    let node = core.acting().get(place)?;
     choice(
         divisors,
         node,
@@ -80,29 +84,22 @@ pub(crate) fn drawn_event(core: &Core, stream: &mut Stream) -> Option<Event>
     )
 }
 
-/// The node that alone can act, where there is one, and where all that it can do is to step.
-pub(crate) fn lone_stepper(core: &Core) -> Option<NodeId>
-    requires { core.now.spent ≡ false }
+/// The node that alone can act, where of so many that can act there is but one, and where all that it can do is to step.
+#[inline]
+pub(crate) fn lone_stepper(core: &Core, count: usize) -> Option<NodeId>
+    requires able { core.now.spent ≡ false }
+    requires count { count ≡ length (acting_in core.now) }
     ensures { IfSome result (IsLone core.now) }
 {
-    let acting = core.acting();
-    if acting.len() != 1 {
+    if count != 1 {
         return None;
     }
-    let node = acting.get(0)?;
+    let node = core.acting().get(0)?;
     if core.can_step(node) && core.senders(node).is_empty() {
         Some(node)
     } else {
         None
     }
-}
-
-/// The node that a word picks of these: the one at the word modulo their number.
-fn picked(divisors: &Divisors, nodes: &NodeSet, word: u32) -> Option<NodeId>
-    ensures { result ≡ picked nodes.now word }
-{
-    let place = place_of(divisors, word, nodes.len())?;
-    nodes.get(place)
 }
 
 /// The place that a word picks of so many: the word modulo their number.
@@ -111,11 +108,10 @@ fn place_of(divisors: &Divisors, word: u32, count: usize) -> Option<usize>
     ensures place { IfSome result (λ place. place ≡ word % count) }
     ensures within { IfSome result (λ place. place < count) }
 {
-    match count {
-        0 => None,
-        1 => Some(0),
-        _ => Some(divisors.remainder(u64::from(word), count) as usize),
+    if count == 0 {
+        return None;
     }
+    Some(divisors.remainder(u64::from(word), count) as usize)
 }
 
 /// The event that a word picks of what a node can do: its step, if it can step, and deliveries from these senders.
