@@ -1,11 +1,11 @@
 -- How many bits of words are set, and which one is at a place.
-use Rattle.std.proofs.Common.{◌≡◌, ℕ, zero, suc, ◌+◌, ◌-◌, ◌*◌, ◌/◌, ◌%◌, ◌^◌, ◌<◌, ◌≤◌, List, [], ◌∷◌, ◌++◌, length, get_or, map, drop, refl, sym, ap, ◌∙◌, arith, inl, inr, Some, length-append, length-drop}
-use Rattle.std.specs.Prelude.{slice_get, bit_and, bit_or, count_ones}
+use Rattle.std.proofs.Common.{◌≡◌, ℕ, zero, suc, ◌+◌, ◌-◌, ◌*◌, ◌/◌, ◌%◌, ◌^◌, ◌<◌, ◌≤◌, List, [], ◌∷◌, ◌++◌, length, get_or, map, drop, refl, sym, ap, ◌∙◌, arith, inl, inr, Some, length-drop}
+use Rattle.std.specs.Prelude.{slice_get, bit_and, count_ones}
 use Rattle.std.specs.Option.{option_map}
 use Rattle.std.specs.Int.Count.{ones_step, count_trailing_zeros}
 use Rattle.std.specs.Int.Bits.{and_step, and_self, and_zero_l}
 use Rattle.std.proofs.lemmas.Bool.{cases_eq, eq-eqb, ne_eqb}
-use Rattle.std.proofs.lemmas.Nat.{zero_from_ones, ones_le_self, le_or_l, le_or_r}
+use Rattle.std.proofs.lemmas.Nat.{ones_le_self}
 use Rattle.std.specs.Int.{w64}
 use Rattle.std.proofs.lemmas.List.{drop-drop}
 use Rattle.std.proofs.lemmas.Nat.Bits.{bit_at-trailing_zeros}
@@ -156,13 +156,6 @@ nodes-drop words index l =
     let rest : List ℕ → ℕ → List ℕ = λ rest first. bits 64 (64 * index) (get_or words index 0) ++ nodes_from first rest in
     ap (nodes_from (64 * index)) (drop-cons words index 0 l) ∙ ap (rest (drop (suc index) words)) next ∙ ap (λ k. rest (drop k words) (64 * (index + 1))) more
 
--- and how many they are
-pub length-nodes : (words : List ℕ) (index : ℕ) → index < length words → get_or words index 0 < 2 ^ 64 → length (nodes_from (64 * index) (drop index words)) ≡ count_ones (get_or words index 0) + length (nodes_from (64 * (index + 1)) (drop (index + 1) words))
-length-nodes words index l fits =
-    let rest : List ℕ = nodes_from (64 * (index + 1)) (drop (index + 1) words) in
-    ap length (nodes-drop words index l) ∙ length-append (bits 64 (64 * index) (get_or words index 0)) rest
-    ∙ ap (λ n. n + length rest) (length-bits 64 (64 * index) (get_or words index 0) fits)
-
 -- the node at a place, where it is one of this word
 pub place_here : (words nodes : List ℕ) (index left place bit : ℕ) → index < length words → nodes_from 0 words ≡ nodes
     → slice_get (nodes_from (64 * index) (drop index words)) left ≡ slice_get (nodes_from 0 words) place
@@ -186,40 +179,3 @@ place_later words index left place l fits m same =
     let many : length (bits 64 base word) ≡ count_ones word = length-bits 64 base word fits in
     ap (λ n. slice_get rest (left - n)) (sym many) ∙ sym (slice_get-right (bits 64 base word) rest left (omega arith))
     ∙ sym (ap (λ ks. slice_get ks left) (nodes-drop words index l)) ∙ same
-
--- Whether any bit is set
-
--- no bit of four words of 0 is set
-empty_from : (a b c d : ℕ) → bit_or (bit_or (bit_or a b) c) d ≡ 0 → nodes_from 0 (a ∷ b ∷ c ∷ d ∷ []) ≡ []
-empty_from a b c d e =
-    let two : ℕ = bit_or a b in
-    let three : ℕ = bit_or two c in
-    let last : d ≡ 0 = omega (arith, le_or_r three d) in
-    let third : c ≡ 0 = omega (arith, le_or_l three d, le_or_r two c) in
-    let second : b ≡ 0 = omega (arith, le_or_l three d, le_or_l two c, le_or_r a b) in
-    let first : a ≡ 0 = omega (arith, le_or_l three d, le_or_l two c, le_or_l a b) in
-    rw (first, second, third, last) (simp bits-zero)
-
--- a word below 2 ^ 64 without a bit that is set is 0
-none_set : (word first : ℕ) → word < 2 ^ 64 → length (bits 64 first word) ≡ 0 → word ≡ 0
-none_set word first l e = zero_from_ones word (sym (length-bits 64 first word l) ∙ e)
-
-all_zero : (a b c d : ℕ) → a < 2 ^ 64 → b < 2 ^ 64 → c < 2 ^ 64 → d < 2 ^ 64 → nodes_from 0 (a ∷ b ∷ c ∷ d ∷ []) ≡ [] → bit_or (bit_or (bit_or a b) c) d ≡ 0
-all_zero a b c d la lb lc ld e =
-    let after : List ℕ → List ℕ → ℕ = λ xs ys. length (xs ++ ys) in
-    let long : length (bits 64 0 a ++ (bits 64 64 b ++ (bits 64 128 c ++ (bits 64 192 d ++ [])))) ≡ 0 = ap length e in
-    let parts : length (bits 64 0 a) + (length (bits 64 64 b) + (length (bits 64 128 c) + (length (bits 64 192 d) + 0))) ≡ 0 = simp length-append at long in
-    let first : a ≡ 0 = none_set a 0 la (omega arith) in
-    let second : b ≡ 0 = none_set b 64 lb (omega arith) in
-    let third : c ≡ 0 = none_set c 128 lc (omega arith) in
-    let last : d ≡ 0 = none_set d 192 ld (omega arith) in
-    rw (first, second, third, last) refl
-
--- what `or` of a set's four words says
-pub empty_nodes : (words nodes : List ℕ) → length words ≡ 4 → nodes_from 0 words ≡ nodes → bit_or (bit_or (bit_or (get_or words 0 0) (get_or words 1 0)) (get_or words 2 0)) (get_or words 3 0) ≡ 0 → nodes ≡ []
-empty_nodes (a ∷ b ∷ c ∷ d ∷ []) nodes four view e = sym view ∙ empty_from a b c d e
-empty_nodes _ nodes four view e = absurd (omega arith)
-
-pub zero_words : (words nodes : List ℕ) → length words ≡ 4 → nodes_from 0 words ≡ nodes → get_or words 0 0 < 2 ^ 64 → get_or words 1 0 < 2 ^ 64 → get_or words 2 0 < 2 ^ 64 → get_or words 3 0 < 2 ^ 64 → nodes ≡ [] → bit_or (bit_or (bit_or (get_or words 0 0) (get_or words 1 0)) (get_or words 2 0)) (get_or words 3 0) ≡ 0
-zero_words (a ∷ b ∷ c ∷ d ∷ []) nodes four view la lb lc ld e = all_zero a b c d la lb lc ld (view ∙ e)
-zero_words _ nodes four view la lb lc ld e = absurd (omega arith)

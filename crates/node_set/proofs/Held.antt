@@ -1,11 +1,13 @@
 -- The nodes whose bits are set in words, as the numbers of a range that pass a test.
 use Rattle.std.proofs.Common.{◌≡◌, ◌≢◌, ℕ, zero, suc, ◌+◌, ◌*◌, ◌/◌, ◌%◌, ◌^◌, ◌<◌, ◌≤◌, Bool, true, false, cond, List, [], ◌∷◌, ◌++◌, length, get_or, set, refl, sym, ap, ◌∙◌, subst, arith, inl, inr}
-use Rattle.std.specs.Prelude.{◌==◌, filter, bit_and, bit_or}
+use Rattle.std.specs.Prelude.{◌==◌, not, filter, bit_and, bit_or}
 use Rattle.std.specs.List.{range_with_len}
 use Rattle.std.specs.Int.{bit_at, bit_not, w64}
 use Rattle.std.proofs.lemmas.Bool.{eqb-false, cases_eq}
 use Rattle.std.proofs.lemmas.List.{length-set, get_or-set_same, get_or-set_other}
 use Rattle.std.proofs.lemmas.List.Elements.{filter-append, All-filter}
+use Rattle.std.proofs.lemmas.List.Filters.{length-filter_both}
+use Rattle.std.proofs.lemmas.List.FromFn.{length-range_with_len}
 use Rattle.std.proofs.lemmas.Nat.Bits.{bit_at_lowest, bit_at-suc, shr_and_one, bit_at_set_same, bit_at_set_other, bit_at_clear_same, bit_at_clear_other}
 use Rattle.node_set.specs.NodeSet.{IsNodeSet, has_node, with_node, without}
 use Rattle.node_set.specs.Inner.{bits, nodes_from}
@@ -38,6 +40,10 @@ passing_known p count l = record {
   ascends = Ascends-filter p (range_with_len 0 count) (Ascends-range 0 count);
   below = All-filter p (λ node. node < 256) (range_with_len 0 count) (range-below 0 count 256 (omega arith));
 }
+
+passing_few : (p : ℕ → Bool) (count : ℕ) → length (passing p 0 count) ≤ count
+unfolding passing
+passing_few p count = omega (arith, length-filter_both p (λ i. not (p i)) (λ i. refl) (range_with_len 0 count), length-range_with_len 0 count)
 
 -- the bits of one word
 bits-passing : (p : ℕ → Bool) (count first word : ℕ) → ((i : ℕ) → i < count → p (first + i) ≡ (bit_at word i == 1)) → bits count first word ≡ passing p first count
@@ -87,6 +93,9 @@ nodes_are words = nodes-passing (is_set words) words 0 (λ i l. ap (is_set words
 
 pub nodes_known : (words : List ℕ) (nodes : List ℕ) → length words ≡ 4 → nodes_from 0 words ≡ nodes → IsNodeSet nodes
 nodes_known words nodes four e = subst IsNodeSet (sym (nodes_are words) ∙ e) (passing_known (is_set words) (64 * length words) (omega arith))
+
+pub nodes_few : (words : List ℕ) (nodes : List ℕ) → length words ≡ 4 → nodes_from 0 words ≡ nodes → length nodes ≤ 256
+nodes_few words nodes four e = omega (arith, ap length (sym (nodes_are words) ∙ e), passing_few (is_set words) (64 * length words))
 
 pub has_node-nodes : (words : List ℕ) (nodes : List ℕ) (node : ℕ) → length words ≡ 4 → node < 256 → nodes_from 0 words ≡ nodes → (bit_and (get_or words (node / 64) 0 / 2 ^ (node % 64)) 1 == 1) ≡ has_node node nodes
 has_node-nodes words nodes node four l e =

@@ -1,13 +1,13 @@
 -- Sets of nodes as ascending lists: with a node more, and without one.
-use Rattle.std.proofs.Common.{◌≡◌, ℕ, ◌<◌, Bool, false, List, [], ◌∷◌, drop, Some, refl, sym, ap, ◌∙◌, inl, inr, arith}
+use Rattle.std.proofs.Common.{◌≡◌, ℕ, ◌+◌, ◌<◌, Bool, false, cond, List, [], ◌∷◌, length, drop, Some, refl, sym, ap, subst, ◌∙◌, inl, inr, arith}
 use Rattle.std.specs.Prelude.{nat_lt, nat_eq, ◌==◌, not, filter, slice_get}
 use Rattle.std.specs.List.{AllByRecursion}
 use Rattle.std.specs.Ordering.{nat_cmp}
 use Rattle.std.specs.BTreeSet.{insert_key}
-use Rattle.std.proofs.lemmas.Bool.{cases_Bool, lt-ltb, le-ltb, eq-eqb, ne_eqb}
+use Rattle.std.proofs.lemmas.Bool.{cases_Bool, cases_eq, cases_order, lt-ltb, le-ltb, eq-eqb, ne_eqb}
 use Rattle.std.proofs.lemmas.Bool.Decides.{nat_tests}
 use Rattle.std.proofs.lemmas.Option.{none-some, same_Some}
-use Rattle.node_set.specs.NodeSet.{Ascends, with_node, without}
+use Rattle.node_set.specs.NodeSet.{Ascends, has_node, with_node, without}
 
 -- where a node goes: before a larger one, nowhere beside itself, after a smaller one
 pub with_node-below : (x y : ℕ) (ys : List ℕ) → x < y → with_node x (y ∷ ys) ≡ x ∷ y ∷ ys
@@ -76,3 +76,26 @@ without-first x ys rises = rw (eq-eqb x x refl) (all_above x ys rises.0)
 pub without-at_first : (x : ℕ) (ys : List ℕ) → Ascends ys → Some x ≡ slice_get ys 0 → without x ys ≡ drop 1 ys
 without-at_first x [] rises e = absurd (none-some x (sym e))
 without-at_first x (y ∷ ys) rises e = let same : x ≡ y = same_Some x y e in ap (λ z. without z (y ∷ ys)) same ∙ without-first y ys rises
+
+-- How many a set has, with a node more and without one
+
+absent-below : (x : ℕ) (ys : List ℕ) → AllByRecursion (λ y. x < y) ys → has_node x ys ≡ false
+absent-below x [] all = refl
+absent-below x (y ∷ ys) all = rw (ne_eqb y x (λ e. absurd (omega (arith, all.0)))) (absent-below x ys all.1)
+
+pub length-with_node : (x : ℕ) (ys : List ℕ) → Ascends ys → length (with_node x ys) ≡ length ys + cond (not (has_node x ys)) 1 0
+length-with_node x [] rises = refl
+length-with_node x (y ∷ ys) rises =
+    elim (cases_order x y) [
+      | inr (inl l) ↦ rw (with_node-below x y ys l, ne_eqb y x (λ e. absurd (omega arith)), absent-below x ys (farther x y ys l rises.0)) (omega arith)
+      | inl e ↦ rw (with_node-there x y ys e, eq-eqb y x (sym e)) (omega arith)
+      | inr (inr l) ↦ rw (with_node-above x y ys l, ne_eqb y x (λ e. absurd (omega arith))) (omega (arith, length-with_node x ys rises.1))
+    ]
+
+pub length-without : (x : ℕ) (ys : List ℕ) → Ascends ys → length (without x ys) + cond (has_node x ys) 1 0 ≡ length ys
+length-without x [] rises = refl
+length-without x (y ∷ ys) rises =
+    elim (cases_eq y x) [
+      | inl e ↦ rw (eq-eqb y x e, all_above x ys (subst (λ z. AllByRecursion (λ w. z < w) ys) e rises.0)) (omega arith)
+      | inr ne ↦ rw (ne_eqb y x ne) (omega (arith, length-without x ys rises.1))
+    ]

@@ -1,4 +1,4 @@
-//! Sets of nodes, as bits: 32 bytes, and no other memory.
+//! Sets of nodes, as bits: 40 bytes, and no other memory.
 #![tactic(auto)]
 
 mod laws;

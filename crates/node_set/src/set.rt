@@ -4,20 +4,23 @@ ghost use Rattle.node_set.specs.NodeSet.{IsNodeSet, has_node, with_node, without
 use crate::words::bit_at_place;
 use std::marker::Model;
 
-/// A set of nodes, which contracts see as the ascending list of their numbers. It has a bit for each number, and takes
-/// no memory but these.
+/// A set of nodes, which contracts see as the ascending list of their numbers. It has a bit for each number, and beside them
+/// how many are set. It takes no memory but these.
 #[derive(Drop)]
 pub struct NodeSet {
     words: [u64; 4],
+    count: usize,
 }
 
 impl Model for NodeSet {
-    ghost use Rattle.std.specs.Prelude.{ℕ, List};
+    ghost use Rattle.std.specs.Prelude.{ℕ, List, ◌≡◌, length};
     ghost use Rattle.node_set.specs.Inner.{nodes_from};
 
     ghost Value = { List ℕ };
 
     ghost view = { λ s. nodes_from 0 s.words };
+
+    ghost invariant = { λ s. s.count ≡ length (nodes_from 0 s.words) };
 }
 
 impl NodeSet {
@@ -26,7 +29,10 @@ impl NodeSet {
     pub fn new() -> NodeSet
         ensures { result ≡ [] }
     {
-        NodeSet { words: [0; 4] }
+        NodeSet {
+            words: [0; 4],
+            count: 0,
+        }
     }
 
     /// The set of one node.
@@ -46,7 +52,8 @@ impl NodeSet {
         ensures same { result ≡ self.now }
     {
         let words = self.words;
-        NodeSet { words }
+        let count = self.count;
+        NodeSet { words, count }
     }
 
     /// Puts a node in.
@@ -55,6 +62,7 @@ impl NodeSet {
         ensures known { IsNodeSet self.new }
         ensures nodes { self.new ≡ with_node node self.old }
     {
+        self.count += usize::from(!self.contains(node));
         self.words[(node / 64) as usize] |= 1 << (node % 64);
     }
 
@@ -64,6 +72,7 @@ impl NodeSet {
         ensures known { IsNodeSet self.new }
         ensures nodes { self.new ≡ without node self.old }
     {
+        self.count -= usize::from(self.contains(node));
         self.words[(node / 64) as usize] &= !(1 << (node % 64));
     }
 
@@ -83,11 +92,7 @@ impl NodeSet {
         ensures count { result ≡ length self.now }
         ensures few { result ≤ 256 }
     {
-        let mut count = 0usize;
-        for word in &self.words {
-            count += word.count_ones() as usize;
-        }
-        count
+        self.count
     }
 
     /// Whether it has no node.
@@ -95,7 +100,7 @@ impl NodeSet {
     pub fn is_empty(&self) -> bool
         ensures { IsTrue result ↔ (self.now ≡ []) }
     {
-        self.words[0] | self.words[1] | self.words[2] | self.words[3] == 0
+        self.count == 0
     }
 
     /// The node at a place in ascending order, if there are so many.
