@@ -61,6 +61,7 @@ impl Home {
     }
 
     /// A request waits, or is taken up at once where nothing is under way and none waits before it.
+    #[inline(always)]
     pub(crate) fn request(
         &mut self,
         site: Site<'_>,
@@ -118,6 +119,7 @@ impl Home {
     }
 
     /// Takes a request up. A transaction begins, and fixes the delay.
+    #[inline(always)]
     fn take_up(&mut self, site: Site<'_>, request: Request, out: &mut Out) -> Result<(), NoMemory>
         requires site { IsSite site.config.now site.tile }
         requires within { IsWithin site.config.now.tiles self.old }

@@ -1,6 +1,7 @@
 ghost use Rattle.std.specs.Prelude.{◌≡◌, ◌+◌, ◌*◌, ◌^◌, ◌<◌, ◌≤◌, ℕ, true, Some, IsSome};
 ghost use Rattle.std.specs.Bool.{OnTrue};
 ghost use Rattle.rv_exec.specs.Access.{finish_of};
+ghost use Rattle.rv_hart.specs.Reservation.{reserved};
 ghost use Rattle.sim_base.specs.Saturated.{saturated};
 ghost use Rattle.tile_cache.specs.Cache.{hold_of};
 ghost use Rattle.tile_core.specs.Core.{line_at};
@@ -104,8 +105,21 @@ impl TileNode {
     {
         self.core.regs.set(access.rd(), done.value);
         self.core.pc = self.core.pc.wrapping_add(4);
-        self.core.reservation = reserved(access, self.core.reservation);
+        self.reserve(access);
         self.instr = self.instr.saturating_add(1);
+    }
+
+    /// The reservation after an access. A load, a store or an atomic memory operation lets it stand.
+    #[inline(always)]
+    fn reserve(&mut self, access: &Access)
+        ensures { self.new ≡ record self.old { core = record self.old.core { reservation = reserved access.now self.old.core.reservation } } }
+    {
+        match access.op() {
+            AccessOp::Load | AccessOp::Store | AccessOp::Amo { .. } => {}
+            AccessOp::Lr | AccessOp::Sc => {
+                self.core.reservation = reserved(access, self.core.reservation);
+            }
+        }
     }
 
     /// An instruction of its thread commits.

@@ -300,6 +300,7 @@ impl TileNode {
     }
 
     /// A data access: done at once where the cache has its line as the access needs it.
+    #[inline(always)]
     pub(crate) fn access(
         &mut self,
         world: &World,
