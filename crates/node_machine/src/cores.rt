@@ -115,6 +115,7 @@ impl Core {
     }
 
     /// Makes an event, and gives the action that it commits, if it does. Where the event isn't enabled nothing changes.
+    #[inline(never)]
     pub fn apply(
         &mut self,
         alloc: Global,
@@ -135,7 +136,7 @@ impl Core {
     }
 
     /// Makes an event that is enabled, and gives the action that it commits, if it does.
-    #[inline]
+    #[inline(always)]
     pub fn apply_enabled(
         &mut self,
         alloc: Global,

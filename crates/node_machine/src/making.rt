@@ -16,6 +16,7 @@ use tile_node::TileNode;
 use wire_msg::{Envelope, Msg, Out};
 
 /// Makes an event of one of the nodes, which can make it: the node acts, and what it sends joins the lists.
+#[inline(always)]
 pub(crate) fn make(
     alloc: Global,
     world: &World,
@@ -45,6 +46,7 @@ pub(crate) fn make(
 }
 
 /// The node whose event it is acts: it steps, or takes the first message of the sender.
+#[inline(always)]
 fn act(
     alloc: Global,
     world: &World,
@@ -65,14 +67,14 @@ fn act(
             if let Node::Tile { tile } = node {
                 return hand_over(alloc, world, id, tile, from, pending, out);
             }
-            let msg = pending.pop(from, id);
-            take(alloc, world, id, node, from, msg, out)
+            take_first(alloc, world, id, node, from, pending, out)
         }
     }
 }
 
 /// A tile takes the first message of a sender, if there is one. The message is lent to it where it waits, since tiles keep no
 /// message, and it is only then dropped.
+#[inline(always)]
 fn hand_over(
     alloc: Global,
     world: &World,
@@ -91,25 +93,28 @@ fn hand_over(
         Some(msg) => tile.deliver_lent(alloc, world, from, msg, out),
         None => Ok(None),
     };
-    let _ = pending.pop(from, id);
+    pending.discard(from, id);
     result
 }
 
-/// A node takes a message from a sender, if there is one.
-fn take(
+/// A node takes the first message of a sender, if there is one. It is a call of its own, since it is for the servers, which
+/// make few of the events.
+#[inline(never)]
+fn take_first(
     alloc: Global,
     world: &World,
     id: NodeId,
     node: &mut Node,
     from: NodeId,
-    msg: Option<Msg>,
+    pending: &mut Pending,
     out: &mut Out,
 ) -> Result<Option<Action>, NoMemory>
     requires fits { IsNode world.now id node.old }
-    ensures acts { Acts result node.new out.old.items out.new.items (taken_act world.now node.old from msg) }
+    ensures acts { Acts result node.new out.old.items out.new.items (taken_act world.now node.old from (first_of (queue_in pending.old.inboxes from id))) }
     ensures fits { IsNode world.now id node.new }
+    ensures pending { pending.new ≡ record pending.old { inboxes = with_rest from id (rest_of (queue_in pending.old.inboxes from id)) pending.old.inboxes } }
 {
-    match msg {
+    match pending.pop(from, id) {
         Some(msg) => node.deliver(alloc, world, id, from, msg, out),
         None => Ok(None),
     }

@@ -52,7 +52,7 @@ impl Inbox {
     }
 
     /// A message from a sender, who is one of them, waits behind the others. Where memory runs out nothing changes.
-    #[inline]
+    #[inline(always)]
     pub(crate) fn push(&mut self, from: NodeId, msg: Msg) -> Result<(), NoMemory>
         requires { from < length self.old }
         ensures ok { OnOk result (self.new ≡ with_queue_from self.old from (queue_from self.old from ++ msg ∷ [])) }
@@ -81,6 +81,20 @@ impl Inbox {
         let place = place_of(&self.mail, from)?;
         leave_unless(&mut self.senders, &self.mail[place + 1..], from);
         take_at(&mut self.mail, place)
+    }
+
+    /// Drops the first message of a sender, where one waits.
+    #[inline(always)]
+    pub(crate) fn discard(&mut self, from: NodeId)
+        ensures { self.new ≡ with_queue_from self.old from (rest_of (queue_from self.old from)) }
+    {
+        match place_of(&self.mail, from) {
+            Some(place) => {
+                leave_unless(&mut self.senders, &self.mail[place + 1..], from);
+                drop_at(&mut self.mail, place);
+            }
+            None => {}
+        }
     }
 
     /// Whether a message of a sender waits.
@@ -173,8 +187,16 @@ impl Pending {
         put(&mut self.acting, node, acts);
     }
 
-    /// A message from a node, to another, waits behind those that wait there. Where memory runs out nothing changes.
+    /// Whether a node is noted as one that can step.
     #[inline]
+    pub(crate) fn can_step(&self, node: NodeId) -> bool
+        ensures { result ≡ slice_index_or self.now.steps node false }
+    {
+        can_step(&self.steps, node)
+    }
+
+    /// A message from a node, to another, waits behind those that wait there. Where memory runs out nothing changes.
+    #[inline(always)]
     pub(crate) fn push(&mut self, from: NodeId, to: NodeId, msg: Msg) -> Result<(), NoMemory>
         requires { from < length (inbox_of self.old.inboxes to) }
         ensures ok { OnOk result (self.new ≡ record self.old { inboxes = with_message from to msg self.old.inboxes }) }
@@ -194,7 +216,6 @@ impl Pending {
     }
 
     /// Takes the first message from a node to another, where one waits. With it gone the other may no longer be able to act.
-    #[inline(always)]
     pub(crate) fn pop(&mut self, from: NodeId, to: NodeId) -> Option<Msg>
         ensures message { result ≡ first_of (queue_in self.old.inboxes from to) }
         ensures rest { self.new ≡ record self.old { inboxes = with_rest from to (rest_of (queue_in self.old.inboxes from to)) self.old.inboxes } }
@@ -204,6 +225,20 @@ impl Pending {
             self.acting.remove(to);
         }
         msg
+    }
+
+    /// Drops the first message from a node to another, where one waits. With it gone the other may no longer be able to act.
+    #[inline(always)]
+    pub(crate) fn discard(&mut self, from: NodeId, to: NodeId)
+        ensures { self.new ≡ record self.old { inboxes = with_rest from to (rest_of (queue_in self.old.inboxes from to)) self.old.inboxes } }
+    {
+        let Some(inbox) = self.inboxes.get_mut(to as usize) else {
+            return;
+        };
+        inbox.discard(from);
+        if !can_act(&self.inboxes, &self.steps, to) {
+            self.acting.remove(to);
+        }
     }
 
     /// Whether a message from a node to another waits.
@@ -232,8 +267,16 @@ impl Pending {
     {
         match self.inboxes.get(node as usize) {
             Some(inbox) => inbox.senders(),
-            None => &self.no_senders,
+            None => self.nobody(),
         }
+    }
+
+    /// The empty set, lent. It is a call of its own, so that no event pays for it.
+    #[inline(never)]
+    fn nobody(&self) -> &NodeSet
+        ensures { result.now ≡ [] }
+    {
+        &self.no_senders
     }
 }
 
@@ -246,7 +289,7 @@ fn place_of(mail: &[Mail], from: NodeId) -> Option<usize>
 }
 
 /// Takes a sender out of a set, unless one of these messages is from it.
-#[inline]
+#[inline(always)]
 fn leave_unless(senders: &mut NodeSet, mail: &[Mail], from: NodeId)
     ensures { senders.new ≡ (if is_some (position (is_from from) mail.now) then senders.old else without from senders.old) }
 {
@@ -278,6 +321,28 @@ fn take_before_others(mail: &mut Vec<Mail>, place: usize) -> Msg
 {
     let Mail { msg, .. } = mail.remove(place);
     msg
+}
+
+/// Drops the message at a place. Nearly always it is the last one, behind which none has to move.
+#[inline(always)]
+fn drop_at(mail: &mut Vec<Mail>, place: usize)
+    requires { place < length mail.old.items }
+    ensures { mail.new.items ≡ remove mail.old.items place }
+{
+    if place + 1 < mail.len() {
+        drop_before_others(mail, place);
+    } else {
+        let _ = mail.pop();
+    }
+}
+
+/// Drops the message at a place, and moves those behind it one place up.
+#[inline(never)]
+fn drop_before_others(mail: &mut Vec<Mail>, place: usize)
+    requires { place < length mail.old.items }
+    ensures { mail.new.items ≡ remove mail.old.items place }
+{
+    let _ = mail.remove(place);
 }
 
 /// Puts a node into a set, or takes it out.

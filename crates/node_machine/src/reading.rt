@@ -34,7 +34,19 @@ impl Core {
     }
 
     /// Whether a node can make a step of its own.
+    #[inline]
     pub fn can_step(&self, node: NodeId) -> bool
+        ensures { result ≡ steps_at (slice_get self.now.nodes node) }
+    {
+        if !self.spent {
+            return self.pending.can_step(node);
+        }
+        self.is_able(node)
+    }
+
+    /// Whether a node can make a step of its own, as the node itself says.
+    #[inline(never)]
+    fn is_able(&self, node: NodeId) -> bool
         ensures { result ≡ steps_at (slice_get self.now.nodes node) }
     {
         match self.nodes.get(node as usize) {
