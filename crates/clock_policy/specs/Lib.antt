@@ -1,3 +1,5 @@
+-- The definitions of epochs, their members and limits, and of probes.
+
 pub mod Members
 pub mod Epoch
 pub mod Place

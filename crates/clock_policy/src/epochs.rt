@@ -1,3 +1,5 @@
+//! Epochs under the barrier: which threads are active, who reached the limit, and when the next begins.
+
 ghost use Rattle.std.specs.Prelude.{◌≡◌, ◌≤◌, ◌<◌, ◌+◌, ◌*◌, [], ◌∷◌, ◌++◌, map, length, slice_get, vec_len, IfOk, OnOk, OnErr, IsOk};
 ghost use Rattle.std.specs.Vec.{vec_capacity};
 ghost use Rattle.std.specs.List.{filter_map, list_all};

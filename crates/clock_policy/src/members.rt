@@ -1,3 +1,5 @@
+//! An active thread of an epoch, and the tile from which it reported.
+
 ghost use Rattle.std.specs.Prelude.{◌≡◌};
 
 use sim_base::NodeId;

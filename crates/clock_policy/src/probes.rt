@@ -1,3 +1,5 @@
+//! Whom a tile asks for its clock under the policy with probes, and whether it may go on by the reply.
+
 ghost use Rattle.std.specs.Prelude.{◌≡◌, ◌≢◌, ◌<◌};
 ghost use Rattle.sim_base.specs.Settings.{IsChecked};
 ghost use Rattle.clock_policy.specs.Probe.{may_go, start_stream, partner_of, after_draw};

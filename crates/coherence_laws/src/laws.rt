@@ -1,3 +1,5 @@
+//! The laws of lines over all runs: one writer or only readers, coherent values, and no one left to wait.
+
 ghost use Rattle.coherence_laws.specs.Laws.{AlwaysCoherent, AlwaysOneWriter, ValuesChange};
 ghost use Rattle.coherence_laws.specs.Still.{NoneWaitsInSilence, StillLinesAreServed};
 

@@ -1,3 +1,5 @@
+//! Who holds a line of memory in the machine as it stands.
+
 ghost use Rattle.std.specs.Prelude.{◌≡◌, ◌≤◌, ◌<◌, ◌+◌, ◌^◌};
 ghost use Rattle.coherence_laws.specs.Holders.{writer_below, readers_below, WriterIsAlone, writer_with, readers_with};
 

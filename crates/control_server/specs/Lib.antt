@@ -1,3 +1,5 @@
+-- The definitions of what the control server keeps, takes up and sends.
+
 pub mod Control
 pub mod Serve
 pub mod Deliver

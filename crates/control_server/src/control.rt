@@ -1,3 +1,5 @@
+//! The control server: what it keeps of a program, its step and what a message makes of it.
+
 ghost use Rattle.std.specs.Prelude.{◌≡◌, ◌&&◌, not, ◌++◌, ◌∷◌, [], map, IfOk, OnOk, is_some, true, false};
 ghost use Rattle.serving.specs.ControlData.{is_parked};
 ghost use Rattle.serving.specs.Serving.{answer, woken_with, are_all_parked, is_deadlocked, end_of_exit};

@@ -1,3 +1,5 @@
+//! How many tiles of each host are free, and which host a new thread goes to.
+
 ghost use Rattle.std.specs.Prelude.{◌≡◌, ◌==◌, ◌<◌, length, map, position, IfOk};
 ghost use Rattle.std.specs.List.{range_with_len};
 ghost use Rattle.sim_base.specs.Settings.{IsChecked};

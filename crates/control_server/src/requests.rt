@@ -1,3 +1,5 @@
+//! Requests that wait for the control server, and the futex wait whose word it reads.
+
 ghost use Rattle.std.specs.Prelude.{◌≡◌};
 ghost use Rattle.control_server.specs.Inner.{word_of};
 

@@ -1,3 +1,5 @@
+-- The definitions of a line at its home: its states, its table of rows, and the slice of a tile.
+
 pub mod Line
 pub mod Directory
 pub mod Laws

@@ -1,3 +1,5 @@
+//! The slice of the directory at a tile: requests for lines and answers, with what the slice sends for each.
+
 ghost use Rattle.std.specs.Prelude.{◌≡◌, ◌<◌, ◌≤◌, Some, false, true, IfOk, OnErr};
 ghost use Rattle.dir_slice.specs.Directory.{Answers, home_at, start_slice, reaction};
 ghost use Rattle.dir_slice.specs.Inner.{up_of_answer};

@@ -1,3 +1,5 @@
+//! A line at its home: who holds it, the requests that wait, and what is sent when one is taken up.
+
 ghost use Rattle.std.specs.Prelude.{◌≡◌, ◌≤◌, ◌++◌, IfOk, map, if◌then◌else◌};
 ghost use Rattle.dir_slice.specs.Directory.{taken_up, settled, requested, reaction};
 ghost use Rattle.dir_slice.specs.Inner.{up_of_answer, sent_mail, IsMade, IsMadeIfAny, IsSite, IsWithin};

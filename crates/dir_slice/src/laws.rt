@@ -1,3 +1,5 @@
+//! The laws of lines at their homes: requests wait only in a transaction, and a message changes one line.
+
 ghost use Rattle.dir_slice.specs.Laws.{FreshIsOrderly, KeepsOrderly, StaysOrderly, OneLineChanges, StartsAsTheImage};
 
 /// A law: of a line of which nothing was heard no request waits, and no node is known.

@@ -1,3 +1,5 @@
+//! The directory's table as code: the next state for each request and answer, and what is sent.
+
 ghost use Rattle.std.specs.Prelude.{◌≡◌, true, Some};
 ghost use Rattle.dir_slice.specs.Inner.{state_of, row_of, answer_row, IsNext};
 ghost use Rattle.dir_slice.specs.Line.{Modified, request_row, invalidate, ack_row, fetch_row, fetched_by, put_row, put_by, given};

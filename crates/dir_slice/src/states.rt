@@ -1,3 +1,5 @@
+//! The states of a line at its home, and the requests and answers that change them.
+
 ghost use Rattle.std.specs.Prelude.{◌≡◌, ◌<◌, ◌≤◌, All};
 ghost use Rattle.dir_slice.specs.Directory.{farthest};
 ghost use Rattle.dir_slice.specs.Line.{awaited, is_busy};

@@ -1,3 +1,5 @@
+//! A divisor with its reciprocal: quotients and remainders by a multiplication.
+
 ghost use Rattle.std.specs.Prelude.{◌≡◌, ◌<◌, ◌/◌, ◌%◌};
 
 use std::marker::Model;

@@ -1,3 +1,5 @@
+//! The divisors of the numbers up to some greatest one, made beforehand.
+
 ghost use Rattle.std.specs.Prelude.{◌≡◌, ◌<◌, ◌≤◌, ◌%◌, vec_len, IfOk};
 ghost use Rattle.divisors.specs.Table.{IsTable};
 

@@ -1,3 +1,5 @@
+-- The definitions of ELF files, images, decoded text, costs, and the address map.
+
 pub mod Costs
 pub mod Decoded
 pub mod File

@@ -1,3 +1,5 @@
+//! The instructions of an executable segment, decoded once, with a search by the pc.
+
 ghost use Rattle.std.specs.Prelude.{◌≡◌, ◌≤◌, ◌^◌, ◌%◌, length, map, filter, All, IfOk};
 ghost use Rattle.std.specs.Option.{option_copied};
 ghost use Rattle.elf_image.specs.Image.{IsSegment, grants_execute};

@@ -1,3 +1,5 @@
+//! The tests by which a file is refused as an image, in their order.
+
 ghost use Rattle.std.specs.Prelude.{◌≡◌, ◌+◌, ◌*◌, ◌≤◌, ◌^◌, ◌-◌, ◌%◌, ◌==◌, ◌||◌, ◌&&◌, not, ℕ, List, map, drop, min, nat_lt, length, sum_by, IfNone, OnSome};
 ghost use Rattle.std.specs.Bool.{OnFalse};
 ghost use Rattle.std.specs.List.{list_any};

@@ -1,3 +1,5 @@
+//! The fields of ELF headers that are read, and their values for a RISC-V executable.
+
 ghost use Rattle.std.specs.Prelude.{◌≡◌, ◌+◌, ◌*◌, ◌≤◌, ◌==◌, ◌%◌, length, filter, IfOk};
 ghost use Rattle.elf_image.specs.Header.{e_entry, e_phoff, e_phnum, header_from, headers};
 ghost use Rattle.elf_image.specs.Image.{has_wrong_size};

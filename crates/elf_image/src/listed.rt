@@ -1,3 +1,5 @@
+//! An instruction of the text with its cost class.
+
 ghost use Rattle.std.specs.Prelude.{◌≡◌};
 ghost use Rattle.rv_exec.specs.Class.{class_of};
 

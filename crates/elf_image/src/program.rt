@@ -1,3 +1,5 @@
+//! An image: its segments and the entry, and the bytes that memory has before the program runs.
+
 ghost use Rattle.std.specs.Prelude.{◌≡◌, ◌+◌, ◌^◌, ◌<◌, ◌≤◌, ◌&&◌, find, map, IfSome, IfOk, IsTrue, nat_lt};
 ghost use Rattle.std.specs.List.{range_with_len, list_any};
 ghost use Rattle.byteorder.specs.Endian.{little_number};

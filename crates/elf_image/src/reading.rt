@@ -1,3 +1,5 @@
+//! How an image is read from the bytes of an ELF file.
+
 ghost use Rattle.std.specs.Prelude.{◌≡◌, ◌+◌, ◌≤◌, false, length, map, Some, None, All, IfOk, IfErr, OnOk};
 ghost use Rattle.elf_image.specs.declared.refusal.ImageFault.{ImageFault};
 ghost use Rattle.elf_image.specs.declared.refusal.ImageRefusal.TheVariants.{Bad};

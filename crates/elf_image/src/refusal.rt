@@ -1,3 +1,5 @@
+//! Why a file is no image, as codes and their names.
+
 ghost use Rattle.elf_image.specs.declared.refusal.ImageRefusal.TheVariants.{NoMemory as OutOfMemory};
 ghost use Rattle.std.specs.Prelude.{◌≡◌};
 

@@ -1,3 +1,5 @@
+//! How an image is written as the bytes of an ELF file.
+
 ghost use Rattle.std.specs.Prelude.{◌≡◌, ◌+◌, ◌*◌, ◌≤◌, ◌<◌, ◌^◌, ◌++◌, length, map, sum_by, All, Ok, OnOk, IfOk, replicate};
 ghost use Rattle.std.specs.List.{flat_map};
 ghost use Rattle.byteorder.specs.Endian.{little_bytes};

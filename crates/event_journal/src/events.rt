@@ -1,3 +1,5 @@
+//! An event of a machine, and the journal of a run.
+
 ghost use Rattle.std.specs.Prelude.{◌≡◌};
 ghost use Rattle.event_journal.specs.Event.{acting_node};
 

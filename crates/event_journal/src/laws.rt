@@ -1,3 +1,5 @@
+//! The laws of runs over any machine: how they join and split, and how many events a node makes.
+
 ghost use Rattle.event_journal.specs.Laws.{StatesJoin, RunsJoin, RunsSplit, RunsHavePrefixes, CountsEvents, RunsStayWithin};
 
 /// A law: the state after two lists of events is the state after the second, from the state after the first.

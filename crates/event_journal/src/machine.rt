@@ -1,3 +1,5 @@
+//! A machine of numbered nodes, as a trait: their steps, and what a message makes of a node.
+
 ghost use Rattle.std.specs.Prelude.{◌≡◌, ◌++◌, ℕ, true, OnOk};
 ghost use Rattle.event_journal.specs.Rules.{Rules};
 

@@ -1,3 +1,5 @@
+-- The definitions of the flat machine: memory, threads, actions and runs.
+
 pub mod Memory
 pub mod State
 pub mod Reservation

@@ -1,3 +1,5 @@
+//! The state of the flat machine, and the actions that change it or are refused.
+
 ghost use Rattle.std.specs.Prelude.{◌≡◌, ◌<◌, IfOk, OnOk, OnErr, Some, false, true, length};
 ghost use Rattle.flat_machine.specs.Inner.{thread_of, action_by};
 

@@ -1,3 +1,5 @@
+//! What a thread of the flat machine does in one action: an instruction, a failed SC, a byte of a write.
+
 ghost use Rattle.std.specs.Prelude.{◌≡◌, ◌<◌, IfSome, true};
 ghost use Rattle.std.specs.List.{list_any};
 ghost use Rattle.flat_machine.specs.State.{new_thread, started};

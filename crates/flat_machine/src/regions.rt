@@ -1,3 +1,5 @@
+//! The flat machine's memory: the bytes of the segments, the heap and the stacks.
+
 ghost use Rattle.std.specs.Prelude.{◌≡◌, ◌≤◌, ◌<◌, ◌+◌, ◌-◌, ◌*◌, ◌^◌, if◌then◌else◌, ◌++◌, OnOk, IfOk, IfSome, IsTrue, All, length, map};
 ghost use Rattle.elf_image.specs.Image.{IsSegment, IsProgram};
 ghost use Rattle.flat_machine.specs.Memory.{byte_at, byte_around, with_byte, start_memory};

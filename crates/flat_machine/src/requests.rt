@@ -1,3 +1,5 @@
+//! What threads of the flat machine ask to be served, and what the answers change.
+
 ghost use Rattle.std.specs.Prelude.{◌≡◌, ◌==◌, ◌&&◌, not, IfOk, map, filter, length, slice_get};
 ghost use Rattle.serving.specs.ControlData.{live_count, is_live, is_waiting, is_joiner, is_joining};
 ghost use Rattle.serving.specs.Join.{join_of, joiner_of};

@@ -1,3 +1,5 @@
+//! Which reservations end where a thread of the flat machine writes bytes.
+
 ghost use Rattle.std.specs.Prelude.{◌≡◌, ◌<◌, map, vec_len};
 ghost use Rattle.flat_machine.specs.Reservation.{share_byte, unless_written, without_reservation, others_end};
 

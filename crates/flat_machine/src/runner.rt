@@ -1,3 +1,5 @@
+//! A run of the flat machine by its only thread.
+
 ghost use Rattle.std.specs.Prelude.{◌≡◌, IfOk};
 ghost use Rattle.flat_machine.specs.Run.{after};
 

@@ -1,3 +1,5 @@
+//! A thread of the flat machine, and what it is doing.
+
 use rv_exec::Regs;
 use rv_hart::Span;
 use sim_base::{Bytes, Cause, NodeId};

@@ -1,3 +1,5 @@
+//! The table of parked threads: park one at a word, wake the longest parked ones.
+
 ghost use Rattle.std.specs.Prelude.{◌≡◌, ◌<◌, ◌-◌, ◌^◌, ◌++◌, ◌∷◌, [], false, length, IfOk, OnOk, OnErr};
 ghost use Rattle.serving.specs.ControlData.{is_waiting};
 ghost use Rattle.serving.specs.Wake.{woken, still_parked, longest_at, without_thread};

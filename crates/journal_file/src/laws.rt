@@ -1,3 +1,5 @@
+//! The laws of journal files: what is written is read again, and a file has one reading.
+
 ghost use Rattle.journal_file.specs.Laws.{WrittenIsRead, ReadIsWritten, HasOneReading};
 
 /// A law: the file of a journal in which no sender is 255, of at most 300,000,000 bytes, reads as that journal.

@@ -1,3 +1,5 @@
+//! How a journal is read from a file's bytes, or the first place where the file is wrong.
+
 ghost use Rattle.std.specs.Prelude.{◌≡◌, ◌≤◌, ◌+◌, ◌*◌, length, IfOk, IfNone};
 ghost use Rattle.journal_file.specs.Reading.{front_fault, told_count, fault_place, event_of, events_in, reading, Reads};
 

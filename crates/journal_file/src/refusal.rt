@@ -1,3 +1,5 @@
+//! Why a file gave no journal.
+
 ghost use Rattle.journal_file.specs.declared.refusal.JournalRefusal.TheVariants.{NoMemory as OutOfMemory};
 ghost use Rattle.std.specs.Prelude.{◌≡◌};
 

@@ -1,3 +1,5 @@
+//! How a journal is written as a file's bytes.
+
 ghost use Rattle.std.specs.Prelude.{◌≡◌, ◌++◌, IfOk, OnOk};
 ghost use Rattle.std.specs.List.{flat_map};
 ghost use Rattle.journal_file.specs.File.{journal_bytes, event_bytes};

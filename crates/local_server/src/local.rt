@@ -1,3 +1,5 @@
+//! The local server of a host: its idle tiles, and what it passes on.
+
 ghost use Rattle.std.specs.Prelude.{◌≡◌, ◌<◌, ◌==◌, ◌++◌, true, false, if◌then◌else◌, IfOk, OnOk, OnErr};
 ghost use Rattle.sim_base.specs.Numbering.{host_of};
 ghost use Rattle.sim_base.specs.Settings.{IsChecked};

@@ -1,3 +1,5 @@
+//! What an instruction, a miss and the dearest step cost, in cycles.
+
 ghost use Rattle.std.specs.Prelude.{◌≡◌, ◌+◌, ◌*◌, ◌<◌, ◌≤◌};
 ghost use Rattle.sim_base.specs.Numbering.{node_count};
 ghost use Rattle.sim_base.specs.Settings.{IsChecked};

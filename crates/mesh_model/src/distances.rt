@@ -1,3 +1,5 @@
+//! The square mesh: where nodes stand, and how many hops lie between two of them.
+
 ghost use Rattle.std.specs.Prelude.{◌≡◌, ◌-◌, ◌*◌, ◌/◌, ◌%◌, ◌<◌, ◌≤◌};
 ghost use Rattle.sim_base.specs.Numbering.{node_count};
 ghost use Rattle.sim_base.specs.Settings.{IsChecked};

@@ -1,3 +1,5 @@
+-- The definitions of the whole machine: nodes, messages that wait, enabled events, and how a run ends.
+
 pub mod Pending
 pub mod Mailbox
 pub mod Machine

@@ -1,3 +1,5 @@
+//! Steps of one node made one after the other, where no message comes between.
+
 ghost use Rattle.std.specs.Prelude.{◌≡◌, ◌<◌, ◌≤◌, ◌+◌, [], true, length, map, slice_index, OnOk};
 ghost use Rattle.node_machine.specs.Machine.{can_step, IsNode};
 ghost use Rattle.node_machine.specs.Pending.{AreInboxes};

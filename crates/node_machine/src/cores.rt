@@ -1,3 +1,5 @@
+//! The machine between two events, and what an event makes of it.
+
 ghost use Rattle.std.specs.Prelude.{◌≡◌, All, IfOk, true, false};
 ghost use Rattle.node_machine.specs.declared.cores.ApplyFault.TheVariants.{NoMemory as OutOfMemory};
 ghost use Rattle.node_machine.specs.Core.{AreIn, AreParts, core_of, start_core, IsCore, is_enabled_in, Applies, AppliesEnabled};

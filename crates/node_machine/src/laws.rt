@@ -1,3 +1,5 @@
+//! The laws of what is read of a machine: it is so of each state that the machine shows.
+
 ghost use Rattle.node_machine.specs.Shown.{ShownIsRead, SomeIsShown, StartIsShown};
 
 /// A law: what is read of a core is read of each state that it shows: which events are enabled, which nodes can act, from

@@ -1,3 +1,5 @@
+//! The machine of a world, as the trait of machines wants it.
+
 ghost use Rattle.std.specs.Prelude.{◌≡◌};
 
 use crate::nodes::Node;

@@ -1,3 +1,5 @@
+//! How an event is made: the node acts, its messages join their lists, the event is counted.
+
 ghost use Rattle.std.specs.Prelude.{◌≡◌, ◌<◌, ◌≤◌, ◌+◌, [], All, length, map, nat_le, slice_set, slice_index, IfOk, OnOk};
 ghost use Rattle.event_journal.specs.Event.{acting_node};
 ghost use Rattle.node_machine.specs.Machine.{can_step, Acts, IsNode};

@@ -1,3 +1,5 @@
+//! A node of the machine: a tile, the control server or a local server.
+
 ghost use Rattle.std.specs.Prelude.{◌≡◌, ◌<◌, ◌≤◌, true, IfOk};
 ghost use Rattle.sim_base.specs.Numbering.{node_count, server_host};
 ghost use Rattle.node_machine.specs.Machine.{can_step, node_step, node_delivered, Acts, start_node, start_server, IsNode};

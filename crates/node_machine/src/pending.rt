@@ -1,3 +1,5 @@
+//! What can happen next: the messages that wait for each node, and which nodes can step.
+
 ghost use Rattle.std.specs.Prelude.{◌≡◌, ◌<◌, ◌++◌, ◌∷◌, [], not, length, replicate, position, remove, is_some, Some, slice_get, slice_set, slice_index_or, IfOk, OnOk, OnErr, false, if◌then◌else◌};
 ghost use Rattle.std.specs.Option.{option_copied, option_map};
 ghost use Rattle.event_journal.specs.State.{is_empty};

@@ -1,3 +1,5 @@
+//! What is read of a machine: which events are enabled, how it ended, counts, holds and output.
+
 ghost use Rattle.std.specs.Prelude.{◌≡◌, false, sum, slice_get};
 ghost use Rattle.sim_base.specs.Saturated.{saturated};
 ghost use Rattle.node_machine.specs.Core.{can_make_in, is_enabled_in, steps_at, counts_at, hold_at, output_at, ended_in, end_in, acting_in, senders_in};

@@ -1,3 +1,5 @@
+//! The laws of node sets: each change is that of an ascending list of numbers.
+
 ghost use Rattle.node_set.specs.Laws.{WithIsInsert, WithAscends, WithoutAscends, OneMorePasses, OneFewerPasses};
 
 /// A law: a set with one node more is what std's sets of numbers make of it.

@@ -1,3 +1,5 @@
+//! A set of nodes as 256 bits, with how many it has.
+
 ghost use Rattle.std.specs.Prelude.{◌≡◌, ◌↔◌, ◌∷◌, [], IsTrue, length, slice_get, drop, ◌≤◌};
 ghost use Rattle.node_set.specs.NodeSet.{IsNodeSet, has_node, with_node, without};
 

@@ -1,3 +1,5 @@
+//! The place of a bit in a word of 64.
+
 ghost use Rattle.std.specs.Prelude.{◌≡◌, ◌<◌, Some, count_ones, slice_get};
 ghost use Rattle.node_set.specs.Inner.{bits};
 

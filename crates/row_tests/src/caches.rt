@@ -1,3 +1,5 @@
+//! Cases of the private cache: the order of ways, holds, and numbers that are written.
+
 ghost use Rattle.std.specs.Prelude.{◌≤◌};
 
 use sim_base::{Line, LineData, NoMemory};

@@ -1,3 +1,5 @@
+//! Cases of epochs and probes: when a limit rises, and whom a tile asks.
+
 use clock_policy::{Epochs, Probes, may_go};
 use sim_base::{Config, NoMemory, NodeId};
 use std::alloc::Global;

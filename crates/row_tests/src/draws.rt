@@ -1,3 +1,5 @@
+//! Pseudo-random numbers for the tests that compare with a plain twin.
+
 ghost use Rattle.std.specs.Prelude.{◌<◌};
 
 /// Draws a number below another from a linear congruential generator.

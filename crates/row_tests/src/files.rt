@@ -1,3 +1,5 @@
+//! Cases of journal files: six events, their bytes, and where a changed file is refused.
+
 use event_journal::{Event, Journal};
 use journal_file::{JournalRefusal, read_journal, write_journal};
 use sim_base::NoMemory;

@@ -1,3 +1,5 @@
+//! Cases of the futex table: who is woken, and in which order.
+
 use futex_table::Futexes;
 use sim_base::NoMemory;
 use std::alloc::Global;

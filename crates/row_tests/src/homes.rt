@@ -1,3 +1,5 @@
+//! Cases of a line's home: what it is told, and what it sends.
+
 ghost use Rattle.std.specs.Prelude.{◌≡◌, IfSome};
 
 use dir_slice::Dir;

@@ -1,3 +1,5 @@
+//! Cases of the local server: where a start and an exit go on to.
+
 ghost use Rattle.std.specs.Prelude.{◌≡◌, ◌<◌, OnErr};
 ghost use Rattle.sim_base.specs.Settings.{IsChecked};
 

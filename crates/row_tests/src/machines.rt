@@ -1,3 +1,5 @@
+//! A machine of two nodes that pass a number on, run through the trait of machines.
+
 ghost use Rattle.std.specs.Prelude.{◌≡◌, ◌≤◌, ◌-◌, ◌∷◌, [], ℕ, true, false, IfOk, OnOk};
 
 use event_journal::Machine;

@@ -1,3 +1,5 @@
+//! Cases of the mesh: sides, hops, delays, and the dearest step.
+
 use mesh_model::{cost, dearest, delay, diameter, hops};
 use sim_base::{Config, CostClass, NodeId};
 

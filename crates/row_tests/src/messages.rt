@@ -1,3 +1,5 @@
+//! Cases of messages: between which nodes each kind may go.
+
 ghost use Rattle.sim_base.specs.Settings.{IsChecked};
 
 use sim_base::{Cause, Config, NoMemory, NodeId};

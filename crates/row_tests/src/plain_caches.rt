@@ -1,3 +1,5 @@
+//! A cache beside a plain list of ways: both answer the same over many calls.
+
 ghost use Rattle.std.specs.Prelude.{◌<◌, IfSome, vec_len};
 
 use crate::draws::draw;

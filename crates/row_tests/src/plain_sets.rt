@@ -1,3 +1,5 @@
+//! A node set beside a sorted list: both answer the same over many calls.
+
 use crate::draws::draw;
 use node_set::NodeSet;
 use sim_base::NoMemory;

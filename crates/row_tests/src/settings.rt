@@ -1,3 +1,5 @@
+//! Cases of settings, node numbers and bytes of a line.
+
 use sim_base::{Config, Field, LineData, NodeId};
 
 /// What is other than in the default settings.

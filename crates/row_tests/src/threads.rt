@@ -1,3 +1,5 @@
+//! Cases of the thread table: joins, exits and their answers.
+
 use sim_base::NoMemory;
 use std::alloc::Global;
 use thread_table::{Fate, Join, Threads};

@@ -1,3 +1,5 @@
+//! Cases of the system's files and output, and of output that a stream takes in pieces.
+
 use sim_outside::{Files, OsFiles, OsSink, Sink};
 use std::alloc::Global;
 use std::fmt::Display;

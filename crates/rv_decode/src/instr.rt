@@ -1,3 +1,5 @@
+//! A decoded instruction, by its form and its name.
+
 /// The name of an instruction. Each belongs to one form of `Instr`.
 #[derive(Clone, Copy, Debug, PartialEq, Eq)]
 pub enum Op {

@@ -1,3 +1,5 @@
+-- The definitions of what instructions do.
+
 pub use Rattle.rv_decode.specs.Valid
 pub mod Registers
 pub mod Arithmetic

@@ -1,3 +1,5 @@
+//! An access to memory that an instruction asks for, and what it gives and writes.
+
 ghost use Rattle.std.specs.Prelude.{◌≡◌, ◌*◌, ◌^◌, ◌<◌, IsTrue};
 ghost use Rattle.rv_decode.specs.Field.{extended};
 ghost use Rattle.rv_exec.specs.Access.{IsAccess, is_size, is_atomic_size, low_bytes, as_read, amo_value, width_of, finish_of};

@@ -1,3 +1,5 @@
+//! The cost class of each instruction.
+
 ghost use Rattle.std.specs.Prelude.{◌≡◌, ◌↔◌, IsTrue};
 ghost use Rattle.sim_base.specs.declared.kinds.CostClass.TheVariants.{Mul, Div};
 ghost use Rattle.rv_exec.specs.Class.{class_of, register_class};

@@ -1,3 +1,5 @@
+//! The effect of each instruction by registers and pc: a value, a jump, an access, a call or a trap.
+
 ghost use Rattle.std.specs.Prelude.{◌≡◌, ◌<◌, ◌%◌, ◌==◌, IsTrue};
 ghost use Rattle.rv_decode.specs.Valid.{IsValid, is_load, is_store, is_atomic};
 ghost use Rattle.sim_base.specs.declared.ends.Cause.TheVariants.{LoadMisaligned, StoreMisaligned};

@@ -1,3 +1,5 @@
+//! What an instruction does, as an answer with its cases.
+
 use crate::access::Access;
 use sim_base::Cause;
 

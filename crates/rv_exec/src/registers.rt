@@ -1,3 +1,5 @@
+//! The 32 integer registers.
+
 ghost use Rattle.std.specs.Prelude.{◌≡◌, ◌<◌, slice_index};
 ghost use Rattle.rv_exec.specs.Registers.{register, with_register, zeros, AreRegisters};
 

@@ -1,3 +1,5 @@
+-- The definitions of a hart's next step: calls, reservations and rights.
+
 pub mod Start
 pub mod Reservation
 pub mod Call

@@ -1,3 +1,5 @@
+//! What a call of a thread asks for, by its number and arguments.
+
 ghost use Rattle.std.specs.Prelude.{◌≡◌, ◌-◌, ◌*◌, ◌/◌, ◌%◌, ◌^◌};
 ghost use Rattle.rv_hart.specs.Call.{call_step, write_call, futex_call, without_bit_7};
 ghost use Rattle.rv_hart.specs.Step.{IsStep};

@@ -1,3 +1,5 @@
+//! Reservations of LR and SC: when one begins, stands and ends on its own hart.
+
 ghost use Rattle.std.specs.Prelude.{◌≡◌};
 ghost use Rattle.rv_exec.specs.Access.{IsAccess};
 ghost use Rattle.rv_hart.specs.Reservation.{span_of, matches, reserved, lacks_reservation};

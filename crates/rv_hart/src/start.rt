@@ -1,3 +1,5 @@
+//! The registers of a thread that begins.
+
 ghost use Rattle.std.specs.Prelude.{◌≡◌, ◌<◌};
 ghost use Rattle.rv_hart.specs.Start.{start_registers};
 

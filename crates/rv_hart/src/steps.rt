@@ -1,3 +1,5 @@
+//! The next step of a hart: an instruction, an access that its rights allow, a call or a trap.
+
 ghost use Rattle.std.specs.Prelude.{◌≡◌};
 ghost use Rattle.rv_decode.specs.Valid.{IsValid};
 ghost use Rattle.rv_hart.specs.Step.{next_step, instruction_step, access_step, is_allowed, right_of, access_fault, is_granted, IsStep};

@@ -1,3 +1,5 @@
+-- The definitions of the run that a seed draws, and of the run that a journal tells.
+
 pub mod Picked
 pub mod Driven
 pub mod Replayed

@@ -1,3 +1,5 @@
+//! The run that a seed draws, event by event, up to an end.
+
 ghost use Rattle.std.specs.Prelude.{◌≡◌, ◌+◌, ◌*◌, ◌++◌, None, OnOk, OnErr, Err, length};
 ghost use Rattle.sim_base.specs.Numbering.{node_count};
 ghost use Rattle.sim_base.specs.Settings.{IsChecked};

@@ -1,3 +1,5 @@
+//! The stream of random words, and the event that two words pick.
+
 ghost use Rattle.std.specs.Prelude.{◌≡◌, ◌*◌, ◌%◌, ◌<◌, None, IfOk, IfSome, false, length};
 ghost use Rattle.node_machine.specs.Core.{acting_in};
 ghost use Rattle.seq_driver.specs.Picked.{start_stream, next_word, after_word, after_draw, picked};

@@ -1,3 +1,5 @@
+//! The run that a journal tells, or the first event that isn't one of it.
+
 ghost use Rattle.seq_driver.specs.declared.replays.ReplayFault.TheVariants.{NoMemory as OutOfMemory};
 ghost use Rattle.seq_driver.specs.Replayed.{Replays};
 ghost use Rattle.std.specs.Prelude.{◌≡◌};

@@ -1,3 +1,5 @@
+-- The definitions of how calls, exits and traps are served.
+
 pub mod ControlData
 pub mod Join
 pub mod Wake

@@ -1,3 +1,5 @@
+//! What a write and a call of brk are answered.
+
 ghost use Rattle.std.specs.Prelude.{◌≡◌, IfOk, OnOk, OnErr};
 ghost use Rattle.serving.specs.Serving.{write_answer, output_with, break_after};
 

@@ -1,3 +1,5 @@
+//! Fates of threads, parked threads, joins, and what a thread asks to be served.
+
 use sim_base::Cause;
 use wire_msg::Call;
 

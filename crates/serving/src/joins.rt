@@ -1,3 +1,5 @@
+//! What a join comes to, by its target's fate.
+
 ghost use Rattle.std.specs.Prelude.{◌≡◌};
 ghost use Rattle.serving.specs.Join.{join_by, joiner_by};
 

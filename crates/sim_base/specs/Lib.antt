@@ -1,3 +1,5 @@
+-- The definitions of numbers in bytes, settings, and the numbers of nodes.
+
 pub mod LittleEndian
 pub mod Names
 pub mod Numbering

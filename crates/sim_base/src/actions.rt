@@ -1,3 +1,5 @@
+//! The actions of the flat machine, and the numbers of nodes.
+
 /// The number of a node of the simulated machine: a tile, or a server.
 pub type NodeId = u8;
 

@@ -1,3 +1,5 @@
+//! Bytes up to a fixed number, with their memory taken beforehand.
+
 ghost use Rattle.std.specs.Prelude.{◌≡◌, ◌<◌, ◌++◌, ◌∷◌, [], length, IfOk};
 
 use crate::byte_string::Bytes;

@@ -1,3 +1,5 @@
+//! A text of bytes, seen as a list.
+
 ghost use Rattle.std.specs.Prelude.{◌≡◌, ◌==◌, ◌≤◌, ◌<◌, ◌-◌, replicate, slice_index, slice_set, ◌++◌, ◌∷◌, [], length, OnOk, OnErr, IfOk};
 
 use crate::memory::NoMemory;

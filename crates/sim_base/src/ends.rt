@@ -1,3 +1,5 @@
+//! How a run ends, and why an instruction traps.
+
 use std::fmt;
 
 /// Why an instruction trapped. The names follow the exceptions of the RISC-V privileged

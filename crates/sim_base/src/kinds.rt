@@ -1,3 +1,5 @@
+//! Clock policies, kinds of generated programs, and cost classes of instructions.
+
 /// How the clocks of tiles are kept near one another, after Graphite (HPCA 2010).
 #[derive(Clone, Copy, Debug, PartialEq, Eq)]
 pub enum Policy {

@@ -1,3 +1,5 @@
+//! Lines of memory, and the numbers in their 64 bytes.
+
 ghost use Rattle.std.specs.Prelude.{◌≡◌, ◌≤◌, ◌<◌, ◌+◌, ◌*◌, ◌^◌, length, replicate, slice_index, slice_set};
 ghost use Rattle.byteorder.specs.Endian.{little_number};
 ghost use Rattle.sim_base.specs.LittleEndian.{loaded, with_bytes, stored};

@@ -1,3 +1,5 @@
+//! The answer that memory ran out.
+
 use std::alloc::{AllocError, AllocFailed};
 use std::error::Error;
 use std::fmt;

@@ -1,3 +1,5 @@
+//! The numbers of nodes: tiles, servers, hosts, and the home of each line.
+
 ghost use Rattle.std.specs.Prelude.{◌≡◌, ◌<◌, ◌≤◌};
 ghost use Rattle.sim_base.specs.Numbering.{node_count, control_node, local_node, server_host, host_of, home_of, place_of};
 ghost use Rattle.sim_base.specs.Settings.{IsChecked};

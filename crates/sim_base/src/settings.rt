@@ -1,3 +1,5 @@
+//! The settings of a simulated machine: defaults, ranges, and the first setting out of its range.
+
 ghost use Rattle.std.specs.Prelude.{◌≡◌, OnOk};
 ghost use Rattle.std.specs.Result.{result_err};
 ghost use Rattle.sim_base.specs.Ranges.{is_within, is_within_pages};

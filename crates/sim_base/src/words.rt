@@ -1,3 +1,5 @@
+//! A text, seen as the list of its bytes.
+
 ghost use Rattle.std.specs.Prelude.{◌≡◌, ◌++◌, ◌∷◌, [], IfOk, length};
 
 use crate::memory::NoMemory;

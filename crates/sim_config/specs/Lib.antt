@@ -1,3 +1,5 @@
+-- The definitions of what the words and a settings file mean.
+
 pub mod Words
 pub mod SettingsFile
 pub mod Inner

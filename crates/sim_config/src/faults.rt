@@ -1,3 +1,5 @@
+//! Why words gave no request, and why a file gave no settings.
+
 ghost use Rattle.std.specs.Prelude.{◌≡◌};
 ghost use Rattle.sim_config.specs.declared.faults.RequestFault.TheVariants.{NoMemory as NoMemoryForRequest};
 ghost use Rattle.sim_config.specs.declared.faults.ConfigFault.TheVariants.{NoMemory as NoMemoryForConfig};

@@ -1,3 +1,5 @@
+//! Settings from a file in TOML, or the first fault of the file.
+
 ghost use Rattle.std.specs.Prelude.{◌≡◌, IfOk};
 ghost use Rattle.toml.specs.View.{table_view};
 ghost use Rattle.sim_base.specs.Settings.{IsChecked};

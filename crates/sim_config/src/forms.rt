@@ -1,3 +1,5 @@
+//! The form of each command: its positionals and its options.
+
 ghost use Rattle.std.specs.Prelude.{◌≡◌};
 ghost use Rattle.sim_config.specs.Words.{run_form, replay_form, gen_form, bench_form};
 ghost use Rattle.sim_config.specs.Inner.{form_of};

@@ -1,3 +1,5 @@
+//! The key of each setting, and which keys are known.
+
 ghost use Rattle.std.specs.Prelude.{◌≡◌};
 ghost use Rattle.sim_config.specs.SettingsFile.{key_of, is_known};
 

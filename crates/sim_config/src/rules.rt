@@ -1,3 +1,5 @@
+//! The rules that the words after a command keep: options once, each with a value, and no word too many.
+
 ghost use Rattle.std.specs.Prelude.{◌≡◌, ◌∷◌, ℕ, List, None, true, false, is_some, option_copied, option_map};
 ghost use Rattle.std.specs.List.{list_any, position};
 ghost use Rattle.sim_config.specs.Words.{CommandForm, is_equals_sign, is_plain, is_use_of, has_name, may_stand, name_and_value, option_of, values, values_in};

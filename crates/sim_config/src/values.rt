@@ -1,3 +1,5 @@
+//! The value of each setting in a document, and the first one of the wrong type.
+
 ghost use Rattle.std.specs.Prelude.{◌≡◌, option_map};
 ghost use Rattle.toml.specs.Data.{get_member};
 ghost use Rattle.toml.specs.View.{view, table_view};

@@ -1,3 +1,5 @@
+//! What the words of the command line ask for: run, replay, gen or bench.
+
 ghost use Rattle.std.specs.Prelude.{◌≡◌, option_and_then, codes, IfOk};
 ghost use Rattle.std.specs.Option.{ok_or};
 ghost use Rattle.clap.specs.Words.{first_value, found_of};

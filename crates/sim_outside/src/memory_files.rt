@@ -1,3 +1,5 @@
+//! Files in memory, whose contents contracts know.
+
 ghost use Rattle.std.specs.Prelude.{◌≡◌, ◌≤◌, ◌<◌, ℕ, List, [], Some, option_map, position, bytes_eq, string_bytes, length, IfSome, OnOk, OnErr};
 ghost use Rattle.sim_outside.specs.Files.{ReadAll, WriteAll};
 ghost use Rattle.sim_outside.specs.Told.{with_file};

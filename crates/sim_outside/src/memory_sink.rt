@@ -1,3 +1,5 @@
+//! A stream in memory, which keeps what it takes.
+
 ghost use Rattle.std.specs.Prelude.{◌≡◌, ◌≤◌, ◌-◌, ℕ, List, [], true, false, Some, IfOk, MatchResult, length, vec_capacity};
 ghost use Rattle.sim_outside.specs.Fault.{raised, Counts};
 ghost use Rattle.sim_outside.specs.Sink.{Put, is_fault};

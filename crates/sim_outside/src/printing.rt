@@ -1,3 +1,5 @@
+//! A stream that takes bytes, as a trait.
+
 ghost use Rattle.std.specs.Prelude.{◌≤◌, ℕ, List, Option};
 ghost use Rattle.sim_outside.specs.Fault.{Counts};
 ghost use Rattle.sim_outside.specs.Sink.{Put, is_fault};

@@ -1,3 +1,5 @@
+//! The system's files and its output.
+
 ghost use Rattle.std.specs.Prelude.{◌≡◌, None, length, IfOk, ◌≤◌};
 
 use crate::printing::{Failed, Sink};

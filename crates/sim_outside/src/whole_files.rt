@@ -1,3 +1,5 @@
+//! Files that are read and written whole, as a trait.
+
 ghost use Rattle.std.specs.Prelude.{◌≡◌, ◌≤◌, ℕ, List, []};
 ghost use Rattle.sim_outside.specs.Files.{ReadAll, WriteAll};
 ghost use Rattle.sim_outside.specs.Told.{Contents};

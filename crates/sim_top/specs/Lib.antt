@@ -1,3 +1,5 @@
+-- The definitions of what the top call answers, puts and writes.
+
 pub mod Text
 pub mod PutAll
 pub mod Asked

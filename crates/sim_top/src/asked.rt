@@ -1,3 +1,5 @@
+//! What a request gives: the settings, the seed, and the names of files.
+
 ghost use Rattle.std.specs.Prelude.{◌≡◌, option_copied};
 ghost use Rattle.sim_base.specs.Settings.{IsChecked};
 ghost use Rattle.sim_top.specs.Asked.{settings_of, config_name, seed_of, written_name};

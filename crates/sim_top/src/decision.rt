@@ -1,3 +1,5 @@
+//! What the words and the files decide: an outcome, a journal, the text, and the file to write.
+
 ghost use Rattle.std.specs.Prelude.{◌≡◌, ◌≤◌, IfOk};
 ghost use Rattle.sim_base.specs.Settings.{IsChecked};
 ghost use Rattle.journal_file.specs.File.{journal_bytes};

@@ -1,3 +1,5 @@
+//! Settings, images and journals from files, each read up to its limit.
+
 ghost use Rattle.std.specs.Prelude.{◌≡◌, ◌<◌, IfOk, Result};
 ghost use Rattle.sim_base.specs.Settings.{IsChecked};
 ghost use Rattle.elf_image.specs.Image.{image_of};

@@ -1,3 +1,5 @@
+//! How a call of the simulator ends, and what it answers.
+
 ghost use Rattle.std.specs.Prelude.{◌≡◌};
 ghost use Rattle.sim_top.specs.declared.outcomes.Halt.TheVariants.{NoMemory as OutOfMemory};
 

@@ -1,3 +1,5 @@
+//! How a text is put on a stream that may take it in pieces.
+
 ghost use Rattle.sim_top.specs.PutAll.{PutsAll};
 
 use sim_outside::{Failed, Sink};

@@ -1,3 +1,5 @@
+//! The whole simulator as one call, over files and a stream.
+
 ghost use Rattle.std.specs.Prelude.{◌≡◌, []};
 ghost use Rattle.sim_top.specs.Answer.{Answers, AbsentIsReadFault};
 ghost use Rattle.sim_top.specs.Inner.{Stores};

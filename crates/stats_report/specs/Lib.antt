@@ -1,3 +1,5 @@
+-- The definitions of the report's text.
+
 pub mod Text
 pub mod Report
 pub use Rattle.node_machine.specs.Machine

@@ -1,3 +1,5 @@
+//! The text of a run from the machine at its end.
+
 ghost use Rattle.std.specs.Prelude.{◌≡◌, ◌≤◌, IfOk, map, slice_get};
 ghost use Rattle.std.specs.List.{range_with_len};
 ghost use Rattle.node_machine.specs.Core.{counts_at};

@@ -1,3 +1,5 @@
+//! The law that a machine's text is that of each state that it shows.
+
 ghost use Rattle.stats_report.specs.Report.{TextIsOfState};
 
 /// A law: the text of a machine is that of each state that it shows.

@@ -1,3 +1,5 @@
+//! The lines of the report: end, events, a line for each tile, and the sums.
+
 ghost use Rattle.std.specs.Prelude.{◌≡◌, ◌++◌, IfOk, codes, decimal, string_bytes};
 ghost use Rattle.stats_report.specs.Text.{line, ends_amid_line, whole_lines, run_text, end_text, trap_text, tile_text, tile_lines, total_text};
 

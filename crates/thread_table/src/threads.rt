@@ -1,3 +1,5 @@
+//! The threads of a program by number: who began, is live, exited or is parked joining.
+
 ghost use Rattle.std.specs.Prelude.{◌≡◌, ◌<◌, ◌-◌, ◌^◌, ◌++◌, ◌∷◌, [], slice_get, slice_set, Some, IfOk, OnOk, OnErr};
 ghost use Rattle.std.specs.Option.{option_map};
 ghost use Rattle.serving.specs.ControlData.{is_live, next_number, live_count, is_joiner, is_joining};

@@ -1,3 +1,5 @@
+//! The private cache: find, place, read, write and drop a line.
+
 ghost use Rattle.std.specs.Prelude.{◌≡◌, ◌≤◌, ◌<◌, ◌+◌, ◌*◌, ◌^◌, if◌then◌else◌, IsSome, IfOk, IfSome, Some, None, length};
 ghost use Rattle.std.specs.Option.{option_copied};
 ghost use Rattle.tile_cache.specs.Kept.{cache_of, IsKept};

@@ -1,3 +1,5 @@
+//! The laws of the cache: what it answers of a line, and how each change shows at each line.
+
 ghost use Rattle.tile_cache.specs.Change.{EmptyHasSize, EmptyIsCache, ChangesKeepSize, ChangesKeepCache};
 ghost use Rattle.tile_cache.specs.Copy.{HeldShows, AbsentShows, EmptyShows, FrontShows, DropShows, TouchHides, WriteShows, DowngradeShows, VictimIsAnother, VictimIsHeld};
 

@@ -1,3 +1,5 @@
+//! A set of the cache: its lines, the most recent first.
+
 ghost use Rattle.std.specs.Prelude.{◌≡◌, ◌≤◌, ◌<◌, ◌+◌, ◌*◌, ◌^◌, false, if◌then◌else◌, List, [], ◌∷◌, find, position, slice_index, IfOk, IfSome, vec_len};
 ghost use Rattle.std.specs.Option.{option_copied, option_map};
 ghost use Rattle.std.specs.Vec.{vec_capacity};

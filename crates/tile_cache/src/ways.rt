@@ -1,3 +1,5 @@
+//! A line in a set, and how it is held: shared or modified.
+
 ghost use Rattle.std.specs.Prelude.{◌≡◌, Some};
 ghost use Rattle.tile_cache.specs.Cache.{is_m};
 

@@ -1,3 +1,5 @@
+-- The definitions of a tile's core and the bytes of a write call.
+
 pub mod Gathering
 pub mod Core
 pub mod Plan

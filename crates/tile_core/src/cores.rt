@@ -1,3 +1,5 @@
+//! A tile's core: its thread, clock, limit and reservation, and a write call under way.
+
 ghost use Rattle.std.specs.Prelude.{◌≡◌, ◌<◌, ◌≤◌, length, IfOk};
 
 use crate::plans::{Plan, plan_for};

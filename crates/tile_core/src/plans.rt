@@ -1,3 +1,5 @@
+//! What a core's next instruction asks of its tile.
+
 ghost use Rattle.std.specs.Prelude.{◌≡◌};
 ghost use Rattle.rv_hart.specs.Step.{IsStep};
 ghost use Rattle.tile_core.specs.Plan.{plan_by, IsPlan};

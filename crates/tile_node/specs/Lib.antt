@@ -1,3 +1,5 @@
+-- The definitions of a tile: its step, its deliveries, and what shows at each line.
+
 pub mod Tile
 pub mod Step
 pub mod Deliver

@@ -1,3 +1,5 @@
+//! What a tile makes of each message that comes to it.
+
 ghost use Rattle.std.specs.Prelude.{◌≡◌, ◌<◌, true, length, Some};
 ghost use Rattle.std.specs.Option.{option_copied};
 ghost use Rattle.wire_msg.specs.Message.{may_send};

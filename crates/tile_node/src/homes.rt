@@ -1,3 +1,5 @@
+//! What a tile makes of a message about a line whose home it is.
+
 ghost use Rattle.std.specs.Prelude.{◌≡◌, true};
 ghost use Rattle.wire_msg.specs.Message.{goes_home, asks, gives_up, acknowledges, answers};
 ghost use Rattle.tile_node.specs.Deliver.{home_does};

@@ -1,3 +1,5 @@
+//! How lines leave a cache: room is made, a line is given up or dropped, a reservation ends.
+
 ghost use Rattle.std.specs.Prelude.{◌≡◌, ◌++◌, map, None, OnOk, OnErr};
 ghost use Rattle.tile_cache.specs.Cache.{content_of, victim_of, LeavesRoom, way_of};
 ghost use Rattle.tile_node.specs.Tile.{told_message, unless_on};

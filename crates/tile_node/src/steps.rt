@@ -1,3 +1,5 @@
+//! A tile's step by its rules: barrier, probe, write under way, instruction.
+
 ghost use Rattle.std.specs.Prelude.{◌≡◌, ◌++◌, ◌*◌, ◌^◌, ◌∷◌, [], ◌<◌, ◌≤◌, true, false, Some, IsSome, OnOk, OnErr};
 ghost use Rattle.sim_base.specs.Numbering.{control_node};
 ghost use Rattle.rv_exec.specs.Access.{finish_of};

@@ -1,3 +1,5 @@
+//! A tile: its core, cache, directory and counts, with its step and its deliveries.
+
 ghost use Rattle.std.specs.Prelude.{◌≡◌, ◌<◌, true, false, IfOk};
 ghost use Rattle.sim_base.specs.Settings.{IsChecked};
 ghost use Rattle.tile_cache.specs.Cache.{empty_cache};

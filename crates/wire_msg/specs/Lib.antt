@@ -1,3 +1,5 @@
+-- The definitions of messages, routes and numbers of errors.
+
 pub mod ErrorNumber
 pub mod Message
 pub use Rattle.sim_base.specs.Numbering

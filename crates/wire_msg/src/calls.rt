@@ -1,3 +1,5 @@
+//! What a thread asks of the control server.
+
 ghost use Rattle.std.specs.Prelude.{◌≡◌, IfOk};
 
 use sim_base::{Bytes, NoMemory};

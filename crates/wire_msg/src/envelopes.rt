@@ -1,3 +1,5 @@
+//! A message on its way, and what a node sends in an event.
+
 use crate::messages::Msg;
 use sim_base::NodeId;
 

@@ -1,3 +1,5 @@
+//! The messages of the machine, one case each, with their times and data.
+
 ghost use Rattle.std.specs.Prelude.{◌≡◌, IfOk};
 
 use crate::calls::Call;

@@ -1,3 +1,5 @@
+//! Which message may go from which node to which.
+
 ghost use Rattle.std.specs.Prelude.{◌≡◌};
 ghost use Rattle.sim_base.specs.Settings.{IsChecked};
 ghost use Rattle.wire_msg.specs.Message.{tile, control, local, has_role, is_reader, goes_in_host, may_send};

@@ -1,3 +1,5 @@
+-- The definitions of the generated workloads, as listings.
+
 pub mod Assembly
 pub mod Instructions
 pub mod Listing

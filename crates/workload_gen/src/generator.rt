@@ -1,3 +1,5 @@
+//! The image of a workload: code, data and entry, by its kind and its seed.
+
 ghost use Rattle.std.specs.Prelude.{◌≡◌, ◌≤◌, ◌<◌, length, IfOk};
 ghost use Rattle.elf_image.specs.File.{file_size};
 ghost use Rattle.workload_gen.specs.Workload.{IsWorkload, WorkloadIsOne, program_of};

@@ -1,3 +1,5 @@
+//! How the control server takes up a request and serves it: whom it answers, and who else goes on.
+
 ghost use Rattle.std.specs.Prelude.{◌≡◌, ◌<◌, ◌++◌, true, length, IfOk, OnOk, ◌+◌, ◌-◌, ◌^◌};
 ghost use Rattle.std.specs.Bool.{OnFalse};
 ghost use Rattle.sim_base.specs.Saturated.{saturated};

@@ -1,3 +1,5 @@
+//! What the control server makes of each message, before and after the program's end.
+
 ghost use Rattle.std.specs.Prelude.{◌≡◌, ◌++◌, ◌∷◌, [], ◌%◌, length, IfOk, OnOk};
 ghost use Rattle.std.specs.List.{list_any};
 ghost use Rattle.control_server.specs.Control.{Control as Server, has_request, waits, is_placed, IsOrderly};
