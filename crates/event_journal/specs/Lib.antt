@@ -1,5 +1,5 @@
 -- The definitions of machines, events, states and runs.
-
+pub mod Blocks
 pub mod Choice
 pub mod Event
 pub mod Laws

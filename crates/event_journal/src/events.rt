@@ -1,10 +1,9 @@
-//! An event of a machine, and the journal of a run.
+//! An event of a machine of numbered nodes, and which node acts in it.
 
 ghost use Rattle.std.specs.Prelude.{◌≡◌};
 ghost use Rattle.event_journal.specs.Event.{acting_node};
 
 use sim_base::NodeId;
-use std::marker::Model;
 
 /// One event of a machine: one node acts, and no other changes.
 #[derive(Clone, Copy, Debug, PartialEq, Eq)]
@@ -13,22 +12,6 @@ pub enum Event {
     Step { node: NodeId },
     /// A node takes the first message that waits for it from another.
     Deliver { from: NodeId, node: NodeId },
-}
-
-/// The events of a run, in their order. Contracts see the list.
-#[derive(Drop)]
-pub struct Journal {
-    /// The events, the first one first.
-    pub events: Vec<Event>,
-}
-
-impl Model for Journal {
-    ghost use Rattle.std.specs.Prelude.{List};
-    ghost use Rattle.event_journal.specs.declared.events.Event.{Event};
-
-    ghost Value = { List Event };
-
-    ghost view = { λ journal. journal.events.items };
 }
 
 impl Event {
