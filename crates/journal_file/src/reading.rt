@@ -28,7 +28,7 @@ pub fn read_journal(alloc: Global, bytes: &[u8]) -> Result<Journal, JournalRefus
         return Err(JournalRefusal::Byte { at });
     }
     let events = read_events(alloc, &bytes[HEAD..])?;
-    Ok(Journal { events })
+    Ok(Journal::of(alloc, events))
 }
 
 /// The first place where a file isn't that of a journal.

@@ -4,7 +4,7 @@ ghost use Rattle.std.specs.Prelude.{◌≡◌, ◌++◌, IfOk, OnOk};
 ghost use Rattle.std.specs.List.{flat_map};
 ghost use Rattle.journal_file.specs.File.{journal_bytes, event_bytes};
 
-use event_journal::{Event, Journal};
+use event_journal::{Event, Events, Journal};
 use sim_base::NoMemory;
 use std::alloc::Global;
 
@@ -19,20 +19,19 @@ pub(crate) const STEP: u8 = 255;
 pub fn write_journal(alloc: Global, journal: &Journal) -> Result<Vec<u8>, NoMemory>
     ensures { IfOk result (λ file. file.items ≡ journal_bytes journal.now) }
 {
-    let events = journal.events.as_slice();
     let mut file = Vec::new(alloc);
     file.extend_from_slice(&MAGIC)?;
-    file.extend_from_slice(&(events.len() as u64).to_le_bytes())?;
-    push_events(&mut file, events)?;
+    file.extend_from_slice(&journal.count().to_le_bytes())?;
+    push_events(&mut file, journal.events())?;
     Ok(file)
 }
 
 /// Appends two bytes for each event.
-fn push_events(file: &mut Vec<u8>, events: &[Event]) -> Result<(), NoMemory>
-    ensures { OnOk result (file.new.items ≡ file.old.items ++ flat_map event_bytes events.now) }
+fn push_events(file: &mut Vec<u8>, mut events: Events<'_>) -> Result<(), NoMemory>
+    ensures { OnOk result (file.new.items ≡ file.old.items ++ flat_map event_bytes events.entry) }
 {
-    for event in events {
-        file.extend_from_slice(&event_bytes(event))?;
+    while let Some(event) = events.next() {
+        file.extend_from_slice(&event_bytes(&event))?;
     }
     Ok(())
 }

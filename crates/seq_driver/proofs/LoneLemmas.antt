@@ -155,18 +155,10 @@ steps_length node zero = refl
 steps_length node (suc n) = ap suc (steps_length node n)
 
 -- so many steps are one, so many times
-steps_are : (node n : ℕ) → replicate n (Step node) ≡ steps_of node n
+pub steps_are : (node n : ℕ) → replicate n (Step node) ≡ steps_of node n
 unfolding steps_of
 steps_are node zero = refl
 steps_are node (suc n) = ap (λ events. Step node ∷ events) (steps_are node n)
-
--- events with so many steps behind them
-pub noted : (events : List Event) (node n all size : ℕ) → size ≡ length events → all ≡ size + n
-    → take all events ++ replicate (all - size) (Step node) ≡ events ++ steps_of node n
-noted events node n all size sized total =
-    let rest : all - size ≡ n = omega (arith, total) in
-    let whole : take all events ≡ events = take_all all events (omega (arith, sized, total)) in
-    ap (λ xs. xs ++ replicate (all - size) (Step node)) whole ∙ ap (λ k. events ++ replicate k (Step node)) rest ∙ ap (λ xs. events ++ xs) (steps_are node n)
 
 -- to draw once more is to pass two words more
 draw_more : (n : ℕ) (g : Lcg) → advance 64 multiplier_64 (2 * n) (after_draw g) ≡ advance 64 multiplier_64 (2 * suc n) g

@@ -60,9 +60,7 @@ pub fn run_alone(alloc: Global, world: &World) -> Result<Ran, DriveFault>
     let config = world.config();
     let mut core = Core::start(alloc, world)?;
     let mut stream = Stream::new(alloc, config.seed, config.nodes() + 1)?;
-    let mut journal = Journal {
-        events: Vec::new(alloc),
-    };
+    let mut journal = Journal::new(alloc);
     for _turn in 0..most_turns(config) {
         if let Some(end) = core.end() {
             return Ok(Ran { journal, core, end });
@@ -111,7 +109,7 @@ fn draw_one(
         return Err(DriveFault::Stuck);
     };
     core.apply_enabled(alloc, world, event)?;
-    journal.events.push(event)?;
+    journal.push(event)?;
     Ok(())
 }
 
@@ -149,8 +147,7 @@ fn note_steps(
     ensures stream { OnOk result (stream.new ≡ after_draws stream.old (steps_of node count)) }
     ensures memory { OnErr result (result ≡ Err OutOfMemory) }
 {
-    let all = journal.events.len() + count as usize;
-    journal.events.resize(all, Event::Step { node })?;
+    journal.push_times(Event::Step { node }, count)?;
     stream.pass(node, count);
     Ok(())
 }

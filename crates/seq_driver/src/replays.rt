@@ -36,21 +36,19 @@ pub fn replay(alloc: Global, world: &World, journal: Journal) -> Result<Ran, Rep
     ensures { Replays world.now journal result }
 {
     let mut core = Core::start(alloc, world)?;
-    for (index, event) in journal.events.iter().enumerate() {
-        match core.apply(alloc, world, *event) {
+    let mut left = journal.events();
+    let mut index = 0;
+    while let Some(event) = left.next() {
+        match core.apply(alloc, world, event) {
             Ok(_) => {}
-            Err(ApplyFault::NotEnabled) => {
-                return Err(ReplayFault::NotEnabled {
-                    index: index as u64,
-                });
-            }
+            Err(ApplyFault::NotEnabled) => return Err(ReplayFault::NotEnabled { index }),
             Err(ApplyFault::NoMemory) => return Err(ReplayFault::NoMemory),
         }
+        index += 1;
     }
+    let count = journal.count();
     match core.end() {
         Some(end) => Ok(Ran { journal, core, end }),
-        None => Err(ReplayFault::Unfinished {
-            count: journal.events.len() as u64,
-        }),
+        None => Err(ReplayFault::Unfinished { count }),
     }
 }

@@ -27,9 +27,9 @@ returns c =
     c.in_ok-apply_enabled.ensures.fits applies.0 applies.1 in
     let drawing : IsDrawing w (after_draw c.args.stream.now) (c.args.journal.now ++ c.in-Some.event ∷ []) =
     drawing_goes_on w c.args.core.now c.args.stream.now c.args.journal.now c.requires.under_way c.requires.drawing c.in-Some.event c.requires.no_end is in
-    let pushed : c.push.new.self.items ≡ c.args.journal.now ++ c.in-Some.event ∷ [] = search rules in
+    let pushed : c.push.new.self ≡ c.args.journal.now ++ c.in-Some.event ∷ [] = search rules in
     let drew : c.drawn_event.new.stream ≡ after_draw c.args.stream.now = search rules in (
       subst (λ events. length c.args.journal.now < length events) (sym pushed) (omega (arith, length-append c.args.journal.now (c.in-Some.event ∷ []))),
       subst (IsUnderWay w c.apply_enabled.new.self) (sym pushed) under,
-      subst (λ g. IsDrawing w g c.push.new.self.items) (sym drew) (subst (IsDrawing w (after_draw c.args.stream.now)) (sym pushed) drawing),
+      subst (λ g. IsDrawing w g c.push.new.self) (sym drew) (subst (IsDrawing w (after_draw c.args.stream.now)) (sym pushed) drawing),
     )
