@@ -24,7 +24,7 @@ static FILE: [u8; 29] = [
 /// Whether the file that is written of the events is theirs.
 fn is_written(alloc: Global) -> Result<bool, NoMemory> {
     let events = Vec::from_slice(alloc, &EVENTS)?;
-    let file = write_journal(alloc, &Journal { events })?;
+    let file = write_journal(alloc, &Journal::of(alloc, events))?;
     Ok(file.as_slice() == &FILE[..28])
 }
 
@@ -36,7 +36,18 @@ fn reads(alloc: Global, at: usize, byte: u8, len: usize) -> Result<bool, Journal
     }
     let part = file.get(..len).unwrap_or(&[]);
     let journal = read_journal(alloc, part)?;
-    Ok(journal.events.as_slice() == EVENTS.as_slice())
+    let events = events_of(alloc, &journal)?;
+    Ok(events.as_slice() == EVENTS.as_slice())
+}
+
+/// The events of a journal.
+fn events_of(alloc: Global, journal: &Journal) -> Result<Vec<Event>, NoMemory> {
+    let mut events = Vec::new(alloc);
+    let mut left = journal.events();
+    while let Some(event) = left.next() {
+        events.push(event)?;
+    }
+    Ok(events)
 }
 
 #[test]

@@ -54,7 +54,7 @@ fn execute(
 fn print_finish(rt: &impl Print, finish: &Finish) -> io::Result<()> {
     let status = finish.status;
     let outcome = &finish.outcome;
-    let events = finish.journal.events.len();
+    let events = finish.journal.count();
     print!(rt; "status {status}, {outcome:?}, {events} events")
 }
 

@@ -165,9 +165,7 @@ fn decide_workload(alloc: Global, kind: Kind, seed: u64, name: &Text) -> Result<
     let bytes = Bytes::from_vec(write_image(alloc, &image)?);
     Ok(Decision {
         outcome: Outcome::Written,
-        journal: Journal {
-            events: Vec::new(alloc),
-        },
+        journal: Journal::new(alloc),
         text: Bytes::from_vec(Vec::new(alloc)),
         file: Some(FileToWrite {
             name: Text::new(alloc, name.as_str())?,
@@ -221,9 +219,7 @@ fn refuse(alloc: Global, outcome: Outcome) -> Result<Decision, NoMemory>
     ensures { IfOk result (IsRefusal outcome) }
 {
     let text = Bytes::from_vec(fault_line(alloc, &outcome)?);
-    let journal = Journal {
-        events: Vec::new(alloc),
-    };
+    let journal = Journal::new(alloc);
     Ok(Decision {
         outcome,
         journal,

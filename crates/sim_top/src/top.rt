@@ -87,9 +87,7 @@ fn store<F: Files>(alloc: Global, files: &mut F, decision: Decision) -> Finish
 fn no_events(alloc: Global) -> Journal
     ensures { result ≡ [] }
 {
-    Journal {
-        events: Vec::new(alloc),
-    }
+    Journal::new(alloc)
 }
 
 /// The answer with this outcome and this journal.
