@@ -1,5 +1,5 @@
 -- What a row sends, message by message, and the nodes of a set, one by one.
-use Rattle.std.proofs.Common.{arith, ◌≡◌, ℕ, true, false, List, [], ◌∷◌, drop, map, refl, sym, ap}
+use Rattle.std.proofs.Common.{arith, ◌≡◌, ℕ, List, [], ◌∷◌, drop, map, refl, sym, ap}
 use Rattle.std.specs.Prelude.{Some, fold, max, slice_get}
 use Rattle.std.specs.Ordering.{nat_cmp, ord_max}
 use Rattle.std.proofs.lemmas.Bool.Decides.{nat_tests}
@@ -7,6 +7,7 @@ use Rattle.std.proofs.lemmas.Grind.{common_steps}
 use Rattle.std.proofs.lemmas.Option.{none-some, same_Some}
 use Rattle.sim_base.specs.declared.settings.Config.{Config}
 use Rattle.mesh_model.specs.Mesh.{hops_between}
+use Rattle.wire_msg.specs.declared.lines.Want.TheVariants.{Read, Write}
 use Rattle.wire_msg.specs.declared.messages.Msg.TheVariants.{Inv}
 use Rattle.dir_slice.specs.Line.{State, Home, Sent, drop_copy, fetch, give}
 use Rattle.dir_slice.specs.Directory.{message, farthest}
@@ -19,10 +20,9 @@ invs_sent line h (node ∷ nodes) = ap (λ mail. (node, Inv line) ∷ mail) (inv
 -- whatever the home's state is
 message-state : (line : ℕ) (h : Home) (state : State) (sent : Sent) → message line (record h { state = state }) sent ≡ message line h sent
 message-state line h state (drop_copy to) = refl
-message-state line h state (fetch false to) = refl
-message-state line h state (fetch true to) = refl
-message-state line h state (give false to) = refl
-message-state line h state (give true to) = refl
+message-state line h state (fetch want to) = refl
+message-state line h state (give Read to) = refl
+message-state line h state (give Write to) = refl
 
 pub messages-state : (line : ℕ) (h : Home) (state : State) (sent : List Sent) → map (message line (record h { state = state })) sent ≡ map (message line h) sent
 messages-state line h state [] = refl

@@ -4,11 +4,10 @@ use Rattle.std.specs.Prelude.{Result, Ok, Err, IfOk}
 use Rattle.std.proofs.lemmas.Bool.{cases_Bool}
 use Rattle.sim_base.specs.declared.memory.NoMemory.{NoMemory}
 use Rattle.sim_base.specs.declared.settings.Config.{Config}
-use Rattle.mesh_model.specs.Cost.{delay_of}
 use Rattle.dir_slice.specs.declared.rows.Sends.{Sends}
-use Rattle.dir_slice.specs.Line.{Request, State, Home, is_busy, request_row, awaited}
+use Rattle.dir_slice.specs.Line.{Request, State, Home, is_busy, request_row}
 use Rattle.dir_slice.specs.Inner.{sent_of, row_of, sent_mail, IsMade}
-use Rattle.dir_slice.specs.Directory.{Mail, Step, message, before_mail, in_row_with_delay, farthest, taken_up, settled}
+use Rattle.dir_slice.specs.Directory.{Mail, Step, message, before_mail, in_row_with_delay, fixed_delay, taken_up, settled}
 use Rattle.dir_slice.proofs.Sent.{messages-state}
 
 -- it is the list of requests that counts, and not what the home says of those that wait
@@ -65,7 +64,7 @@ none_left_busy c tile line first out_first now out_now left busy =
 
 -- what a request's row sends, with its delay, is what is sent where the request is taken up
 pub mail_taken_up : (c : Config) (tile line : ℕ) (h : Home) (q : Request) (state : State) (sends : Sends) (d : ℕ) (result : Result (Unit {0}) NoMemory) (out_old out_new : Mail)
-    → row_of state sends ≡ request_row h.state q.write q.from → d ≡ delay_of c q.from tile (farthest c tile (awaited state))
+    → row_of state sends ≡ request_row h.state q.want q.from → d ≡ fixed_delay c tile q.from state
     → IfOk result (λ done. out_new ≡ out_old ++ sent_mail line (record h { state = state; delay = d }) sends)
     → IfOk result (λ done. out_new ≡ out_old ++ (taken_up c tile line h q).mail)
 mail_taken_up c tile line h q state sends d (Ok done) out_old out_new row delay sent =

@@ -11,11 +11,12 @@ use Rattle.std.proofs.lemmas.Map.Views.{tells_apart}
 use Rattle.sim_base.specs.declared.lines.LineData.{LineData}
 use Rattle.sim_base.specs.declared.memory.NoMemory.{NoMemory}
 use Rattle.sim_base.specs.declared.settings.Config.{Config}
-use Rattle.dir_slice.specs.declared.states.Answer.{Answer}
-use Rattle.dir_slice.specs.declared.states.Answer.TheVariants.{Dropped, Fetched, GivenUp}
+use Rattle.wire_msg.specs.declared.lines.Want.{Want}
+use Rattle.wire_msg.specs.declared.lines.Up.{Up}
+use Rattle.wire_msg.specs.declared.lines.Up.TheVariants.{Asks, GivesUp, Acknowledges, HandsOver}
 use Rattle.dir_slice.specs.Line.{Home, fresh}
-use Rattle.dir_slice.specs.Inner.{up_of_answer, IsMade, IsMadeIfAny, IsWithin, AreWithin, AreMade}
-use Rattle.dir_slice.specs.Directory.{Mail, Step, zero_line, home_at, reaction}
+use Rattle.dir_slice.specs.Inner.{IsMade, IsMadeIfAny, IsWithin, AreWithin, AreMade}
+use Rattle.dir_slice.specs.Directory.{Mail, Step, Slice, zero_line, home_at, requested, answered, reaction, after_step, Answers}
 
 -- each home knows nodes of the machine alone, also where one is put
 pub fresh_within : (tiles : ℕ) (memory : LineData) → IsWithin tiles (fresh memory)
@@ -71,15 +72,16 @@ step_made_if_any homes put line step h new (Ok done) out_old out_new known put_i
 step_made_if_any homes put line step h new (Err e) out_old out_new known put_is made = tt
 
 -- a line that wasn't known has no row for an answer, and is put after a request
-answer_unknown : (c : Config) (tile line : ℕ) (h : Home) (from : ℕ) (answer : Answer) (memory : LineData) → h ≡ fresh memory → reaction c tile line h from (up_of_answer answer) ≡ None
-answer_unknown c tile line h from Dropped memory is = rw is refl
-answer_unknown c tile line h from (Fetched content) memory is = rw is refl
-answer_unknown c tile line h from (GivenUp content) memory is = rw is refl
+answer_unknown : (c : Config) (tile line : ℕ) (h : Home) (from : ℕ) (says : Up) (memory : LineData) → h ≡ fresh memory → answered c tile line h from says ≡ None
+answer_unknown c tile line h from Acknowledges memory is = rw is refl
+answer_unknown c tile line h from (HandsOver content) memory is = rw is refl
+answer_unknown c tile line h from (GivesUp content) memory is = rw is refl
+answer_unknown c tile line h from (Asks want) memory is = refl
 
-pub none_made : (c : Config) (tile line : ℕ) (homes same : FinMap nat_cmp Home) (from : ℕ) (answer : Answer) (out : Mail) → get homes line ≡ None → same ≡ homes
-    → AreMade line (reaction c tile line (home_at homes line) from (up_of_answer answer)) homes same out out
-none_made c tile line homes same from answer out unknown is =
-    rw (answer_unknown c tile line (home_at homes line) from answer zero_line (home_unknown homes line unknown)) (record { homes = is; mail = sym (append-nil out) })
+pub none_made : (c : Config) (tile line : ℕ) (homes same : FinMap nat_cmp Home) (from : ℕ) (says : Up) (out : Mail) → get homes line ≡ None → same ≡ homes
+    → AreMade line (answered c tile line (home_at homes line) from says) homes same out out
+none_made c tile line homes same from says out unknown is =
+    rw (answer_unknown c tile line (home_at homes line) from says zero_line (home_unknown homes line unknown)) (record { homes = is; mail = sym (append-nil out) })
 
 pub put_within : (tiles : ℕ) (homes same put : FinMap nat_cmp Home) (line : ℕ) (h : Home) (result : Result (Unit {0}) NoMemory) → AreWithin tiles homes → same ≡ homes → IsWithin tiles h
     → IfOk result (λ done. put ≡ insert same line h) → OnErr result (put ≡ same) → AreWithin tiles put
@@ -92,3 +94,17 @@ pub put_made : (homes same put : FinMap nat_cmp Home) (line : ℕ) (step : Home 
 put_made homes same put line step h new memory (Ok done) out_old out_new unknown is h_is memory_is put_is made =
     step_made homes put line step h new (Ok done) out_old out_new (home_unknown homes line unknown ∙ ap fresh (sym memory_is) ∙ sym h_is) (put_is ∙ ap (λ m. insert m line new) is) made
 put_made homes same put line step h new memory (Err e) out_old out_new unknown is h_is memory_is put_is made = tt
+
+-- a request that was made is the slice's answer
+pub requested_so : (c : Config) (old between : Slice) (homes : FinMap nat_cmp Home) (line from : ℕ) (want asked : Want) (out_old out_new : Mail) → old.spent ≡ false → between ≡ record old { spent = true }
+    → want ≡ asked → AreMade line (Some (requested c between.tile line (home_at between.homes line) (record { from = from; want = want }))) between.homes homes out_old out_new
+    → Answers (Ok tt) old (record { tile = between.tile; tiles = between.tiles; homes = homes; spent = false }) out_old out_new line (reaction c old.tile line (home_at old.homes line) from (Asks asked))
+requested_so c old between homes line from want asked out_old out_new spent between_is want_is made =
+    let Said : Slice → Want → Type 0 = λ s q. AreMade line (Some (requested c s.tile line (home_at s.homes line) (record { from = from; want = q }))) s.homes homes out_old out_new in
+    let now : Said old asked = subst (Said old) want_is (subst (λ s. Said s want) between_is made) in (
+      spent,
+      ap (λ (s : Slice). record { tile = s.tile; tiles = s.tiles; homes = homes; spent = false }) between_is
+          ∙ ap (λ m. record { tile = old.tile; tiles = old.tiles; homes = m; spent = false }) now.homes
+          ∙ ap (λ b. record { tile = old.tile; tiles = old.tiles; homes = after_step old.homes line (reaction c old.tile line (home_at old.homes line) from (Asks asked)); spent = b }) (sym spent),
+      now.mail,
+    )

@@ -1,6 +1,6 @@
--- A slice of the directory: the lines whose home is one tile. Every message is a row of the table; a request goes to
--- the end of the line's waiting ones first. Then the waiting ones are taken up in order until a transaction is under
--- way or none is left.
+-- A slice of the directory: the lines whose home is one tile. Every message is a row of the table; a request waits for
+-- its row while a transaction is under way. After an answer the waiting ones are taken up in order, until a transaction is
+-- under way again or none is left.
 use Rattle.std.specs.Prelude.{ℕ, ◌+◌, ◌-◌, ◌/◌, ◌==◌, ◌≡◌, Bool, true, false, List, [], ◌∷◌, ◌++◌, length, map, filter, fold, max, replicate, if◌then◌else◌, Option, Some, None, unwrap_or, Result, Ok, Err}
 use Rattle.std.specs.Option.{option_map}
 use Rattle.std.specs.List.{flat_map, range_with_len}
@@ -16,20 +16,30 @@ use Rattle.mesh_model.specs.Mesh.{hops_between}
 use Rattle.mesh_model.specs.Cost.{delay_of}
 use Rattle.wire_msg.specs.declared.messages.Msg.{Msg}
 use Rattle.wire_msg.specs.declared.messages.Msg.TheVariants.{DataS, DataM, Inv, Fetch, FetchInv}
-use Rattle.wire_msg.specs.Message.{Up, asks, gives_up, acknowledges, answers}
-use Rattle.dir_slice.specs.Line.{Home, Request, Row, Sent, drop_copy, fetch, give, fresh, is_busy, request_row, ack_row, fetch_row, put_row, awaited}
+use Rattle.wire_msg.specs.declared.lines.Want.{Want}
+use Rattle.wire_msg.specs.declared.lines.Want.TheVariants.{Read, Write}
+use Rattle.wire_msg.specs.declared.lines.Up.{Up}
+use Rattle.wire_msg.specs.declared.lines.Up.TheVariants.{Asks}
+use Rattle.dir_slice.specs.Line.{Home, Request, Row, Sent, drop_copy, fetch, give, fresh, State, is_busy, request_row, answer_row, memory_after, awaited}
 
 -- messages, each with its receiver
 abbrev pub Mail : Type 0
 Mail = List (ℕ × Msg)
 
+-- the message by which a home fetches a line, and that with the line's data and the delay
+abbrev pub fetch_message : ℕ → Want → Msg
+fetch_message line Read = Fetch line
+fetch_message line Write = FetchInv line
+
+abbrev pub data_message : ℕ → Home → Want → Msg
+data_message line h Read = DataS line h.memory h.delay
+data_message line h Write = DataM line h.memory h.delay
+
 -- the message of what is sent about a line, from its home
 abbrev pub message : ℕ → Home → Sent → ℕ × Msg
 message line h (drop_copy to) = (to, Inv line)
-message line h (fetch false to) = (to, Fetch line)
-message line h (fetch true to) = (to, FetchInv line)
-message line h (give false to) = (to, DataS line h.memory h.delay)
-message line h (give true to) = (to, DataM line h.memory h.delay)
+message line h (fetch want to) = (to, fetch_message line want)
+message line h (give want to) = (to, data_message line h want)
 
 -- a home after a row or more, with what was sent
 pub record Step : Type 0 where
@@ -44,13 +54,16 @@ farthest c tile nodes = fold (λ most x. max most (hops_between c tile x)) 0 nod
 abbrev pub in_row : ℕ → Home → Row → Step
 in_row line h row = record { home = record h { state = row.state }; mail = map (message line h) row.sent }
 
--- the same with the delay of a new transaction, fixed by its requester and by the nodes that have to give up the line
+-- the delay of a new transaction, fixed by its requester and by the nodes that have to give up the line
+abbrev pub fixed_delay : Config → ℕ → ℕ → State → ℕ
+fixed_delay c tile from state = delay_of c from tile (farthest c tile (awaited state))
+
 abbrev pub in_row_with_delay : Config → ℕ → ℕ → Home → Request → Row → Step
-in_row_with_delay c tile line h q row = in_row line (record h { delay = delay_of c q.from tile (farthest c tile (awaited row.state)) }) row
+in_row_with_delay c tile line h q row = in_row line (record h { delay = fixed_delay c tile q.from row.state }) row
 
 -- a request's turn has come
 abbrev pub taken_up : Config → ℕ → ℕ → Home → Request → Step
-taken_up c tile line h q = in_row_with_delay c tile line h q (request_row h.state q.write q.from)
+taken_up c tile line h q = in_row_with_delay c tile line h q (request_row h.state q.want q.from)
 
 -- a step after what was sent before it
 abbrev pub before_mail : Mail → Step → Step
@@ -68,30 +81,23 @@ settle c tile line s = before_mail s.mail (settled c tile line s.home s.home.wai
 
 -- the messages; none where the table has no row, and then nothing changes and nothing is sent
 
--- a request waits, and is taken up at once where nothing is under way
+-- a request waits while a transaction is under way, and else is taken up at once
 abbrev pub requested : Config → ℕ → ℕ → Home → Request → Step
-requested c tile line h q = settle c tile line (record { home = record h { waiting = h.waiting ++ q ∷ [] }; mail = [] })
+requested c tile line h q =
+    if is_busy h.state then record { home = record h { waiting = h.waiting ++ q ∷ [] }; mail = [] }
+    else taken_up c tile line h q
 
--- a dropped copy is acknowledged
-abbrev pub acknowledged : Config → ℕ → ℕ → Home → ℕ → Option Step
-acknowledged c tile line h s = option_map (λ row. settle c tile line (in_row line h row)) (ack_row h.state s)
+-- the row for an answer: its data is the home's memory from then on; then the waiting requests are taken up
+abbrev pub after_row : Config → ℕ → ℕ → Home → Up → Row → Step
+after_row c tile line h says row = settle c tile line (in_row line (record h { memory = memory_after says h.memory }) row)
 
--- the owner's data comes by a row, and is the home's memory from then on
-abbrev pub with_data : Config → ℕ → ℕ → Home → LineData → Option Row → Option Step
-with_data c tile line h content row = option_map (λ row. settle c tile line (in_row line (record h { memory = content }) row)) row
-
-abbrev pub fetch_answered : Config → ℕ → ℕ → Home → ℕ → LineData → Option Step
-fetch_answered c tile line h s content = with_data c tile line h content (fetch_row h.state s)
-
-abbrev pub given_up : Config → ℕ → ℕ → Home → ℕ → LineData → Option Step
-given_up c tile line h s content = with_data c tile line h content (put_row h.state s)
+abbrev pub answered : Config → ℕ → ℕ → Home → ℕ → Up → Option Step
+answered c tile line h from says = option_map (after_row c tile line h says) (answer_row h.state from says)
 
 -- what a home makes of what a node tells it of the line, if the table has a row for it
 abbrev pub reaction : Config → ℕ → ℕ → Home → ℕ → Up → Option Step
-reaction c tile line h from (asks write) = Some (requested c tile line h (record { from = from; write = write }))
-reaction c tile line h from acknowledges = acknowledged c tile line h from
-reaction c tile line h from (answers content) = fetch_answered c tile line h from content
-reaction c tile line h from (gives_up content) = given_up c tile line h from content
+reaction c tile line h from (Asks want) = Some (requested c tile line h (record { from = from; want = want }))
+reaction c tile line h from says = answered c tile line h from says
 
 -- a line at its home after a step, if one was made
 abbrev pub home_after : Home → Option Step → Home

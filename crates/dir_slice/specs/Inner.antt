@@ -1,7 +1,7 @@
 -- For the contracts and models of the code alone: no clause of a public function needs this. How the code keeps states
 -- and what rows send, which nodes a home knows of, steps that were made, the lines of the start put one after the other,
 -- and how slices are told apart.
-use Rattle.std.specs.Prelude.{ℕ, ◌≡◌, ◌==◌, ◌&&◌, ◌++◌, ◌<◌, ◌≤◌, ◌⊎◌, Bool, List, [], ◌∷◌, map, nat_eq, Option, Some, None, IfSome, if◌then◌else◌, refl}
+use Rattle.std.specs.Prelude.{ℕ, ◌≡◌, ◌==◌, ◌&&◌, ◌++◌, ◌<◌, ◌≤◌, ◌⊎◌, Bool, true, false, List, [], ◌∷◌, map, nat_eq, Option, Some, None, IfSome, if◌then◌else◌, refl}
 use Rattle.std.specs.List.{All, list_any}
 use Rattle.std.specs.Coded.{Coded, code_by, coded×, coded⊎, coded_list, coded_ℕ, coded_bool}
 use Rattle.std.specs.FinMap.{FinMap, get, code}
@@ -13,14 +13,13 @@ use Rattle.sim_base.specs.declared.settings.Config.{Config}
 use Rattle.sim_base.specs.Numbering.{home_of}
 use Rattle.sim_base.specs.Settings.{IsChecked}
 use Rattle.elf_image.specs.Layout.{Setup, initial_line}
-use Rattle.wire_msg.specs.Message.{Up, acknowledges, answers, gives_up}
-use Rattle.dir_slice.specs.declared.states.Answer.{Answer}
-use Rattle.dir_slice.specs.declared.states.Answer.TheVariants.{Dropped, Fetched, GivenUp}
+use Rattle.wire_msg.specs.declared.lines.Want.{Want}
+use Rattle.wire_msg.specs.declared.lines.Want.TheVariants.{Read, Write}
 use Rattle.dir_slice.specs.declared.rows.Sends.{Sends}
 use Rattle.dir_slice.specs.declared.rows.Sends.TheVariants.{Nothing, Invs, Fetch, Data}
 use Rattle.dir_slice.specs.declared.states.State.{State as KeptState}
 use Rattle.dir_slice.specs.declared.states.State.TheVariants.{Uncached as KeptUncached, Shared as KeptShared, Modified as KeptModified, BusyInv as KeptBusyInv, BusyFetch as KeptBusyFetch}
-use Rattle.dir_slice.specs.Line.{State, Uncached, Shared, Modified, BusyInv, BusyFetch, Request, Sent, drop_copy, fetch, give, Row, Home, fresh, ack_row, fetch_row, put_row, awaited}
+use Rattle.dir_slice.specs.Line.{State, Uncached, Shared, Modified, BusyInv, BusyFetch, Request, Sent, drop_copy, fetch, give, Row, Home, fresh, awaited}
 use Rattle.dir_slice.specs.Directory.{Mail, Step, Slice, message, after_step, mail_of}
 
 -- states, and what rows send, as the code keeps them
@@ -31,14 +30,14 @@ state_of KeptUncached = Uncached
 state_of (KeptShared sharers) = Shared sharers
 state_of (KeptModified owner) = Modified owner
 state_of (KeptBusyInv requester left) = BusyInv requester left
-state_of (KeptBusyFetch write requester owner) = BusyFetch write requester owner
+state_of (KeptBusyFetch want requester owner) = BusyFetch want requester owner
 
 -- what is sent, in order, where this is the new state
 abbrev pub sent_of : State → Sends → List Sent
 sent_of state Nothing = []
 sent_of state Invs = map drop_copy (awaited state)
-sent_of state (Fetch write owner) = fetch write owner ∷ []
-sent_of state (Data write to) = give write to ∷ []
+sent_of state (Fetch want owner) = fetch want owner ∷ []
+sent_of state (Data want to) = give want to ∷ []
 
 -- the row that leads to a state, with what is sent
 abbrev pub row_of : State → Sends → Row
@@ -48,24 +47,6 @@ row_of state sends = record { state = state; sent = sent_of state sends }
 abbrev pub IsNext : Option Sends → State → State → Option Row → Type 0
 IsNext (Some sends) old new found = found ≡ Some (row_of new sends)
 IsNext None old new found = (found ≡ None) × (new ≡ old)
-
--- what a node's answer tells the home
-abbrev pub up_of_answer : Answer → Up
-up_of_answer Dropped = acknowledges
-up_of_answer (Fetched content) = answers content
-up_of_answer (GivenUp content) = gives_up content
-
--- the table's row for it
-abbrev pub answer_row : State → ℕ → Answer → Option Row
-answer_row state from Dropped = ack_row state from
-answer_row state from (Fetched content) = fetch_row state from
-answer_row state from (GivenUp content) = put_row state from
-
--- the home's memory after it
-abbrev pub memory_after : Answer → LineData → LineData
-memory_after Dropped memory = memory
-memory_after (Fetched content) memory = content
-memory_after (GivenUp content) memory = content
 
 -- which nodes a home knows of: tiles and the control server alone, whose number is the number of tiles
 
@@ -80,7 +61,7 @@ StateIsWithin tiles Uncached = Unit {0}
 StateIsWithin tiles (Shared sharers) = All (λ node. node ≤ tiles) sharers
 StateIsWithin tiles (Modified owner) = owner ≤ tiles
 StateIsWithin tiles (BusyInv requester left) = (requester ≤ tiles) × All (λ node. node ≤ tiles) left
-StateIsWithin tiles (BusyFetch write requester owner) = (requester ≤ tiles) × (owner ≤ tiles)
+StateIsWithin tiles (BusyFetch want requester owner) = (requester ≤ tiles) × (owner ≤ tiles)
 
 -- and each node of a home: those of its state, and those whose requests wait
 pub record IsWithin (tiles : ℕ) (h : Home) : Type 0 where
@@ -125,16 +106,32 @@ PutsLines w tile these old new =
 
 -- how slices are told apart: each is stored as pairs, sums and lists of numbers
 
+-- what a line is wanted for, as whether it is to be written
+abbrev is_write : Want → Bool
+is_write Read = false
+is_write Write = true
+
+abbrev want_of : Bool → Want
+want_of false = Read
+want_of true = Write
+
+pub restored_want : (want : Want) → want_of (is_write want) ≡ want
+restored_want Read = refl
+restored_want Write = refl
+
+abbrev want_code : Coded Want
+want_code = code_by Bool coded_bool is_write want_of restored_want
+
 -- a state as one of five
 abbrev Stored : Type 0
-Stored = Unit {0} ⊎ (List ℕ ⊎ (ℕ ⊎ ((ℕ × List ℕ) ⊎ (Bool × (ℕ × ℕ)))))
+Stored = Unit {0} ⊎ (List ℕ ⊎ (ℕ ⊎ ((ℕ × List ℕ) ⊎ (Want × (ℕ × ℕ)))))
 
 abbrev stored : State → Stored
 stored Uncached = inl tt
 stored (Shared sharers) = inr (inl sharers)
 stored (Modified owner) = inr (inr (inl owner))
 stored (BusyInv requester left) = inr (inr (inr (inl (requester, left))))
-stored (BusyFetch write requester owner) = inr (inr (inr (inr (write, (requester, owner)))))
+stored (BusyFetch want requester owner) = inr (inr (inr (inr (want, (requester, owner)))))
 
 abbrev restored : Stored → State
 restored (inl _) = Uncached
@@ -148,15 +145,15 @@ restored_state Uncached = refl
 restored_state (Shared sharers) = refl
 restored_state (Modified owner) = refl
 restored_state (BusyInv requester left) = refl
-restored_state (BusyFetch write requester owner) = refl
+restored_state (BusyFetch want requester owner) = refl
 
 abbrev state_code : Coded State
 state_code =
-    code_by Stored (coded⊎ coded_unit (coded⊎ (coded_list coded_ℕ) (coded⊎ coded_ℕ (coded⊎ (coded× coded_ℕ (coded_list coded_ℕ)) (coded× coded_bool (coded× coded_ℕ coded_ℕ))))))
+    code_by Stored (coded⊎ coded_unit (coded⊎ (coded_list coded_ℕ) (coded⊎ coded_ℕ (coded⊎ (coded× coded_ℕ (coded_list coded_ℕ)) (coded× want_code (coded× coded_ℕ coded_ℕ))))))
     stored restored restored_state
 
 abbrev request_code : Coded Request
-request_code = code_by (ℕ × Bool) (coded× coded_ℕ coded_bool) (λ q. (q.from, q.write)) (λ p. record { from = p.0; write = p.1 }) (λ _. refl)
+request_code = code_by (ℕ × Want) (coded× coded_ℕ want_code) (λ q. (q.from, q.want)) (λ p. record { from = p.0; want = p.1 }) (λ _. refl)
 
 abbrev line_code : Coded LineData
 line_code = code_by (List ℕ) (coded_list coded_ℕ) (λ d. d.bytes) (λ bytes. record { bytes = bytes }) (λ _. refl)

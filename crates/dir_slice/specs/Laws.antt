@@ -6,7 +6,7 @@ use Rattle.sim_base.specs.declared.lines.LineData.{LineData}
 use Rattle.sim_base.specs.declared.settings.Config.{Config}
 use Rattle.sim_base.specs.Numbering.{home_of}
 use Rattle.elf_image.specs.Layout.{Setup, initial_line}
-use Rattle.wire_msg.specs.Message.{Up}
+use Rattle.wire_msg.specs.declared.lines.Up.{Up}
 use Rattle.node_set.specs.NodeSet.{Ascends, has_node}
 use Rattle.dir_slice.specs.Line.{State, Shared, BusyInv, Home, fresh, is_busy}
 use Rattle.dir_slice.specs.Directory.{Step, reaction, home_after, home_at, after_step, start_homes}

@@ -1,20 +1,17 @@
-//! The slice of the directory at a tile: requests for lines and answers, with what the slice sends for each.
-
-ghost use Rattle.std.specs.Prelude.{◌≡◌, ◌<◌, ◌≤◌, Some, false, true, IfOk, OnErr};
-ghost use Rattle.dir_slice.specs.Directory.{Answers, home_at, start_slice, reaction};
-ghost use Rattle.dir_slice.specs.Inner.{up_of_answer};
+//! A slice of the directory, and its calls: each is one message to a line's home.
+ghost use Rattle.std.specs.Prelude.{◌≡◌, ◌<◌, ◌≤◌, Some, false, true, IfOk, OnErr, if◌then◌else◌};
+ghost use Rattle.dir_slice.specs.Directory.{Answers, home_at, start_slice, answered, reaction};
 ghost use Rattle.sim_base.specs.Numbering.{home_of};
 ghost use Rattle.sim_base.specs.Settings.{IsChecked};
-ghost use Rattle.wire_msg.specs.Message.{asks, acknowledges, answers, gives_up};
 
 use crate::home::Site;
 use crate::homes::{Homes, zero_line};
-use crate::states::{Answer, Request};
+use crate::states::Request;
 use elf_image::World;
 use sim_base::{Config, Line, LineData, NoMemory, NodeId};
 use std::alloc::Global;
 use std::marker::Model;
-use wire_msg::Out;
+use wire_msg::{Out, Up, Want};
 
 /// A slice of the directory: the lines whose home is one tile, each with its state, the home's memory, the requests
 /// that wait, and the delay of its last transaction. Each call is one message to a line's home. It appends what the
@@ -88,7 +85,7 @@ impl Dir {
         requires home { home_of config.now line ≡ self.old.tile }
         requires from_in_range { from ≤ config.now.tiles }
         ensures { Answers result self.old self.new out.old.items out.new.items line
-            (reaction config.now self.old.tile line (home_at self.old.homes line) from (asks write)) }
+            (reaction config.now self.old.tile line (home_at self.old.homes line) from (Up.Asks (if write then Want.Write else Want.Read))) }
     {
         self.begin()?;
         let site = Site {
@@ -96,8 +93,9 @@ impl Dir {
             tile: self.tile,
             line,
         };
+        let want = want_of(write);
         self.homes
-            .request(alloc, site, Request { from, write }, out)?;
+            .request(alloc, site, Request { from, want }, out)?;
         self.spent = false;
         Ok(())
     }
@@ -106,7 +104,6 @@ impl Dir {
     /// and the waiting requests are served, until a transaction is under way again or none is left.
     pub fn ack(
         &mut self,
-        alloc: Global,
         config: &Config,
         from: NodeId,
         line: Line,
@@ -116,16 +113,15 @@ impl Dir {
         requires same_machine { config.now.tiles ≡ self.old.tiles }
         requires home { home_of config.now line ≡ self.old.tile }
         ensures { Answers result self.old self.new out.old.items out.new.items line
-            (reaction config.now self.old.tile line (home_at self.old.homes line) from acknowledges) }
+            (reaction config.now self.old.tile line (home_at self.old.homes line) from Up.Acknowledges) }
     {
-        self.answer(config, from, line, &Answer::Dropped, out)
+        self.answer(config, from, line, &Up::Acknowledges, out)
     }
 
     /// The owner of a line answers a fetch, with the line's data, which the home's memory has from then on: a reader
     /// shares the line with it, a writer gets it alone. Then the waiting requests are served.
     pub fn fetched(
         &mut self,
-        alloc: Global,
         config: &Config,
         from: NodeId,
         line: Line,
@@ -136,17 +132,16 @@ impl Dir {
         requires same_machine { config.now.tiles ≡ self.old.tiles }
         requires home { home_of config.now line ≡ self.old.tile }
         ensures { Answers result self.old self.new out.old.items out.new.items line
-            (reaction config.now self.old.tile line (home_at self.old.homes line) from (answers content.now)) }
+            (reaction config.now self.old.tile line (home_at self.old.homes line) from (Up.HandsOver content.now)) }
     {
-        let answer = Answer::Fetched { content: *content };
-        self.answer(config, from, line, &answer, out)
+        let says = Up::HandsOver { content: *content };
+        self.answer(config, from, line, &says, out)
     }
 
     /// The owner of a line gives it up by itself, with its data, which the home's memory has from then on. If it was
     /// asked for the line meanwhile, that answers the fetch. Then the waiting requests are served.
     pub fn put(
         &mut self,
-        alloc: Global,
         config: &Config,
         from: NodeId,
         line: Line,
@@ -157,10 +152,10 @@ impl Dir {
         requires same_machine { config.now.tiles ≡ self.old.tiles }
         requires home { home_of config.now line ≡ self.old.tile }
         ensures { Answers result self.old self.new out.old.items out.new.items line
-            (reaction config.now self.old.tile line (home_at self.old.homes line) from (gives_up content.now)) }
+            (reaction config.now self.old.tile line (home_at self.old.homes line) from (Up.GivesUp content.now)) }
     {
-        let answer = Answer::GivenUp { content: *content };
-        self.answer(config, from, line, &answer, out)
+        let says = Up::GivesUp { content: *content };
+        self.answer(config, from, line, &says, out)
     }
 
     /// A node answers: it dropped its copy, or the owner sent the line.
@@ -169,14 +164,14 @@ impl Dir {
         config: &Config,
         from: NodeId,
         line: Line,
-        answer: &Answer,
+        says: &Up,
         out: &mut Out,
     ) -> Result<(), NoMemory>
         requires checked { IsChecked config.now }
         requires same_machine { config.now.tiles ≡ self.old.tiles }
         requires home { home_of config.now line ≡ self.old.tile }
         ensures { Answers result self.old self.new out.old.items out.new.items line
-            (reaction config.now self.old.tile line (home_at self.old.homes line) from (up_of_answer answer.now)) }
+            (answered config.now self.old.tile line (home_at self.old.homes line) from says.now) }
     {
         self.begin()?;
         let site = Site {
@@ -184,7 +179,7 @@ impl Dir {
             tile: self.tile,
             line,
         };
-        self.homes.answer(site, from, answer, out)?;
+        self.homes.answer(site, from, says, out)?;
         self.spent = false;
         Ok(())
     }
@@ -201,4 +196,12 @@ impl Dir {
         self.spent = true;
         Ok(())
     }
+}
+
+/// What a line is wanted for: to write it, or only to read it.
+#[inline]
+fn want_of(write: bool) -> Want
+    ensures { result ≡ (if write then Want.Write else Want.Read) }
+{
+    if write { Want::Write } else { Want::Read }
 }

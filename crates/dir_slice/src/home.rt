@@ -1,18 +1,17 @@
-//! A line at its home: who holds it, the requests that wait, and what is sent when one is taken up.
-
-ghost use Rattle.std.specs.Prelude.{◌≡◌, ◌≤◌, ◌++◌, IfOk, map, if◌then◌else◌};
-ghost use Rattle.dir_slice.specs.Directory.{taken_up, settled, requested, reaction};
-ghost use Rattle.dir_slice.specs.Inner.{up_of_answer, sent_mail, IsMade, IsMadeIfAny, IsSite, IsWithin};
-ghost use Rattle.dir_slice.specs.Line.{fresh, awaited};
+//! A line at its home: what the home makes of each message about it.
+ghost use Rattle.std.specs.Prelude.{◌≡◌, ◌≤◌, ◌++◌, IfOk, map};
+ghost use Rattle.dir_slice.specs.Directory.{taken_up, settled, requested, answered, fetch_message, data_message};
+ghost use Rattle.dir_slice.specs.Inner.{sent_mail, IsMade, IsMadeIfAny, IsSite, IsWithin};
+ghost use Rattle.dir_slice.specs.Line.{fresh, awaited, memory_after};
 
 use crate::rows::Sends;
-use crate::states::{Answer, Request, State};
+use crate::states::{Request, State};
 use mesh_model::delay;
 use sim_base::{Config, Line, LineData, NoMemory, NodeId};
 use std::alloc::Global;
 use std::collections::VecDeque;
 use std::marker::Model;
-use wire_msg::{Msg, Out};
+use wire_msg::{Msg, Out, Up, Want};
 
 /// Which line it is, at which tile's home, and the machine's settings.
 #[derive(Clone, Copy)]
@@ -62,7 +61,7 @@ impl Home {
         self.memory
     }
 
-    /// A request waits, or is taken up at once where nothing is under way and none waits before it.
+    /// A request waits while a transaction is under way, and else is taken up at once.
     #[inline(always)]
     pub(crate) fn request(
         &mut self,
@@ -76,11 +75,11 @@ impl Home {
         ensures within { IsWithin site.entry.config.now.tiles self.new }
         ensures made { IfOk result (λ _. IsMade (requested site.entry.config.now site.entry.tile site.entry.line self.old request) self.new out.old.items out.new.items) }
     {
-        if self.waiting.is_empty() && !self.state.is_busy() {
+        if !self.state.is_busy() {
             return self.take_up(site, request, out);
         }
         self.waiting.push_back(request)?;
-        self.settle(site, out)
+        Ok(())
     }
 
     /// A node answers.
@@ -88,18 +87,18 @@ impl Home {
         &mut self,
         site: Site<'_>,
         from: NodeId,
-        answer: &Answer,
+        says: &Up,
         out: &mut Out,
     ) -> Result<(), NoMemory>
         requires site { IsSite site.config.now site.tile }
         requires within { IsWithin site.config.now.tiles self.old }
         ensures within { IsWithin site.entry.config.now.tiles self.new }
-        ensures made { IfOk result (λ _. IsMadeIfAny (reaction site.entry.config.now site.entry.tile site.entry.line self.old from (up_of_answer answer.now)) self.old self.new out.old.items out.new.items) }
+        ensures made { IfOk result (λ _. IsMadeIfAny (answered site.entry.config.now site.entry.tile site.entry.line self.old from says.now) self.old self.new out.old.items out.new.items) }
     {
-        let Some(sends) = self.state.answered(from, answer) else {
+        let Some(sends) = self.state.answered(from, says) else {
             return Ok(());
         };
-        answer.store(&mut self.memory);
+        store(says, &mut self.memory);
         self.send(site.line, sends, out)?;
         self.settle(site, out)
     }
@@ -142,8 +141,8 @@ impl Home {
         match sends {
             Sends::Nothing => {}
             Sends::Invs => self.send_invs(line, out)?,
-            Sends::Fetch { write, owner } => out.push((owner, fetch(line, write)))?,
-            Sends::Data { write, to } => out.push((to, self.data(line, write)))?,
+            Sends::Fetch { want, owner } => out.push((owner, fetch(line, want)))?,
+            Sends::Data { want, to } => out.push((to, self.data(line, want)))?,
         }
         Ok(())
     }
@@ -161,35 +160,45 @@ impl Home {
 
     /// The line's data, to read or to write.
     #[inline]
-    fn data(&self, line: Line, write: bool) -> Msg
-        ensures { result ≡ (if write then Msg.DataM line self.now.memory self.now.delay else Msg.DataS line self.now.memory self.now.delay) }
+    fn data(&self, line: Line, want: Want) -> Msg
+        ensures { result ≡ data_message line self.now want }
     {
         let content = self.memory;
         let delay = self.delay;
-        if write {
-            Msg::DataM {
+        match want {
+            Want::Read => Msg::DataS {
                 line,
                 content,
                 delay,
-            }
-        } else {
-            Msg::DataS {
+            },
+            Want::Write => Msg::DataM {
                 line,
                 content,
                 delay,
-            }
+            },
         }
     }
 }
 
 /// Asks the owner to share a line with a reader, or to give it up for a writer.
 #[inline]
-fn fetch(line: Line, write: bool) -> Msg
-    ensures { result ≡ (if write then Msg.FetchInv line else Msg.Fetch line) }
+fn fetch(line: Line, want: Want) -> Msg
+    ensures { result ≡ fetch_message line want }
 {
-    if write {
-        Msg::FetchInv { line }
-    } else {
-        Msg::Fetch { line }
+    match want {
+        Want::Read => Msg::Fetch { line },
+        Want::Write => Msg::FetchInv { line },
+    }
+}
+
+/// The data that an answer brings is the home's memory from then on, if it brings any.
+#[inline]
+fn store(says: &Up, memory: &mut LineData)
+    ensures { memory.new ≡ memory_after says.now memory.old }
+{
+    match says {
+        Up::HandsOver { content } => *memory = *content,
+        Up::GivesUp { content } => *memory = *content,
+        Up::Acknowledges | Up::Asks { .. } => {}
     }
 }

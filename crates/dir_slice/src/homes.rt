@@ -1,21 +1,20 @@
-//! The lines that a home has heard of, and what it has of the others from the image.
-
+//! The lines of a slice, each at its home, and what the image gives them at the start.
 ghost use Rattle.std.specs.Prelude.{◌≡◌, ◌==◌, ◌≤◌, None, Some, IfOk, OnErr};
 ghost use Rattle.std.specs.FinMap as map;
 ghost use Rattle.std.specs.Option.{option_copied};
-ghost use Rattle.dir_slice.specs.Directory.{zero_line, file_lines, start_homes, home_at, requested, reaction};
-ghost use Rattle.dir_slice.specs.Inner.{up_of_answer, has, PutsLines, IsSite, AreWithin, AreMade};
+ghost use Rattle.dir_slice.specs.Directory.{zero_line, file_lines, start_homes, home_at, requested, answered};
+ghost use Rattle.dir_slice.specs.Inner.{has, PutsLines, IsSite, AreWithin, AreMade};
 ghost use Rattle.dir_slice.specs.Line.{fresh};
 ghost use Rattle.elf_image.specs.Image.{IsSegment};
 
 use crate::home::{Home, Site};
-use crate::states::{Answer, Request};
+use crate::states::Request;
 use elf_image::{Segment, World};
 use sim_base::{Line, LineData, NoMemory, NodeId};
 use std::alloc::Global;
 use std::collections::BTreeMap;
 use std::marker::Model;
-use wire_msg::Out;
+use wire_msg::{Out, Up};
 
 /// How many bytes a line has.
 const LINE_BYTES: u64 = 64;
@@ -143,16 +142,16 @@ impl Homes {
         &mut self,
         site: Site<'_>,
         from: NodeId,
-        answer: &Answer,
+        says: &Up,
         out: &mut Out,
     ) -> Result<(), NoMemory>
         requires site { IsSite site.config.now site.tile }
         requires within { AreWithin site.config.now.tiles self.old }
         ensures within { AreWithin site.entry.config.now.tiles self.new }
-        ensures made { IfOk result (λ _. AreMade site.entry.line (reaction site.entry.config.now site.entry.tile site.entry.line (home_at self.old site.entry.line) from (up_of_answer answer.now)) self.old self.new out.old.items out.new.items) }
+        ensures made { IfOk result (λ _. AreMade site.entry.line (answered site.entry.config.now site.entry.tile site.entry.line (home_at self.old site.entry.line) from says.now) self.old self.new out.old.items out.new.items) }
     {
         if let Some(home) = self.known.get_mut(&site.line) {
-            return home.answer(site, from, answer, out);
+            return home.answer(site, from, says, out);
         }
         Ok(())
     }

@@ -1,12 +1,12 @@
-//! The directory's table as code: the next state for each request and answer, and what is sent.
+//! The rows of the directory's table: for each state of a line and each message, the next state and what is sent.
+ghost use Rattle.std.specs.Prelude.{◌≡◌, Some};
+ghost use Rattle.dir_slice.specs.Inner.{state_of, row_of, IsNext};
+ghost use Rattle.dir_slice.specs.Line.{Modified, request_row, invalidate, answer_row, ack_row, fetch_row, fetched_by, put_row, put_by, given};
 
-ghost use Rattle.std.specs.Prelude.{◌≡◌, true, Some};
-ghost use Rattle.dir_slice.specs.Inner.{state_of, row_of, answer_row, IsNext};
-ghost use Rattle.dir_slice.specs.Line.{Modified, request_row, invalidate, ack_row, fetch_row, fetched_by, put_row, put_by, given};
-
-use crate::states::{Answer, Request, State};
+use crate::states::{Request, State};
 use node_set::NodeSet;
 use sim_base::NodeId;
+use wire_msg::{Up, Want};
 
 /// What a row of the directory's table sends.
 #[derive(Clone, Copy)]
@@ -16,9 +16,9 @@ pub(crate) enum Sends {
     /// To each node that the new state waits for, to drop its copy.
     Invs,
     /// To the owner, to share the line with a reader, or to give it up for a writer.
-    Fetch { write: bool, owner: NodeId },
+    Fetch { want: Want, owner: NodeId },
     /// The line, to read or to write.
-    Data { write: bool, to: NodeId },
+    Data { want: Want, to: NodeId },
 }
 
 impl State {
@@ -26,19 +26,19 @@ impl State {
     /// what the row sends.
     #[inline]
     pub(crate) fn serve(&mut self, request: Request) -> Sends
-        ensures { row_of (state_of self.new) result ≡ request_row (state_of self.old) request.write request.from }
+        ensures { row_of (state_of self.new) result ≡ request_row (state_of self.old) request.want request.from }
     {
         match self {
-            State::Uncached => self.grant(request.write, request.from),
+            State::Uncached => self.grant(request.want, request.from),
             State::Shared { sharers } => {
-                if request.write {
+                if matches!(request.want, Want::Write) {
                     let mut others = sharers.copy();
                     others.remove(request.from);
                     return self.invalidate(request.from, others);
                 }
                 sharers.insert(request.from);
                 Sends::Data {
-                    write: false,
+                    want: Want::Read,
                     to: request.from,
                 }
             }
@@ -50,15 +50,17 @@ impl State {
         }
     }
 
-    /// Goes to the state of the row for a node's answer, if the table has one. The result is then what the row sends.
+    /// Goes to the state of the row for what a node tells the home, where that is an answer and the table has a row for it.
+    /// The result is then what the row sends.
     #[inline]
-    pub(crate) fn answered(&mut self, from: NodeId, answer: &Answer) -> Option<Sends>
-        ensures { IsNext result (state_of self.old) (state_of self.new) (answer_row (state_of self.old) from answer.now) }
+    pub(crate) fn answered(&mut self, from: NodeId, says: &Up) -> Option<Sends>
+        ensures { IsNext result (state_of self.old) (state_of self.new) (answer_row (state_of self.old) from says.now) }
     {
-        match answer {
-            Answer::Dropped => self.acked(from),
-            Answer::Fetched { .. } => self.fetched(from),
-            Answer::GivenUp { .. } => self.put(from),
+        match says {
+            Up::Acknowledges => self.acked(from),
+            Up::HandsOver { .. } => self.fetched(from),
+            Up::GivesUp { .. } => self.put(from),
+            Up::Asks { .. } => None,
         }
     }
 
@@ -85,10 +87,10 @@ impl State {
     {
         match *self {
             State::BusyFetch {
-                write,
+                want,
                 requester,
                 owner,
-            } if owner == from => Some(self.fetched_by(write, requester, owner)),
+            } if owner == from => Some(self.fetched_by(want, requester, owner)),
             _ => None,
         }
     }
@@ -103,34 +105,40 @@ impl State {
                 Some(Sends::Nothing)
             }
             State::BusyFetch {
-                write,
+                want,
                 requester,
                 owner,
-            } if owner == from => Some(self.grant(write, requester)),
+            } if owner == from => Some(self.grant(want, requester)),
             _ => None,
         }
     }
 
     /// A line that nobody holds goes to a reader or to a writer.
     #[inline]
-    fn grant(&mut self, write: bool, to: NodeId) -> Sends
-        ensures { row_of (state_of self.new) result ≡ put_by write to }
+    fn grant(&mut self, want: Want, to: NodeId) -> Sends
+        ensures { row_of (state_of self.new) result ≡ put_by want to }
     {
-        if write {
+        if matches!(want, Want::Write) {
             return self.grant_alone(to);
         }
         let sharers = NodeSet::of(to);
         *self = State::Shared { sharers };
-        Sends::Data { write: false, to }
+        Sends::Data {
+            want: Want::Read,
+            to,
+        }
     }
 
     /// A writer gets the line alone.
     #[inline]
     fn grant_alone(&mut self, to: NodeId) -> Sends
-        ensures { row_of (state_of self.new) result ≡ given (Modified to) true to }
+        ensures { row_of (state_of self.new) result ≡ given (Modified to) Want.Write to }
     {
         *self = State::Modified { owner: to };
-        Sends::Data { write: true, to }
+        Sends::Data {
+            want: Want::Write,
+            to,
+        }
     }
 
     /// A writer waits until the others have dropped their copies, if there are any.
@@ -147,31 +155,31 @@ impl State {
     /// The owner is asked for the line.
     #[inline]
     fn fetch(&mut self, owner: NodeId, request: Request) -> Sends
-        ensures { row_of (state_of self.new) result ≡ request_row (Modified owner) request.write request.from }
+        ensures { row_of (state_of self.new) result ≡ request_row (Modified owner) request.want request.from }
     {
         *self = State::BusyFetch {
-            write: request.write,
+            want: request.want,
             requester: request.from,
             owner,
         };
         Sends::Fetch {
-            write: request.write,
+            want: request.want,
             owner,
         }
     }
 
     /// The owner answered a fetch: a reader shares the line with it, a writer gets it alone.
-    fn fetched_by(&mut self, write: bool, requester: NodeId, owner: NodeId) -> Sends
-        ensures { row_of (state_of self.new) result ≡ fetched_by write requester owner }
+    fn fetched_by(&mut self, want: Want, requester: NodeId, owner: NodeId) -> Sends
+        ensures { row_of (state_of self.new) result ≡ fetched_by want requester owner }
     {
-        if write {
+        if matches!(want, Want::Write) {
             return self.grant_alone(requester);
         }
         let mut sharers = NodeSet::of(owner);
         sharers.insert(requester);
         *self = State::Shared { sharers };
         Sends::Data {
-            write: false,
+            want: Want::Read,
             to: requester,
         }
     }

@@ -1,22 +1,22 @@
-//! The states of a line at its home, and the requests and answers that change them.
-
+//! What a line's home knows: the requests that wait, who holds the line, and which transaction is under way.
 ghost use Rattle.std.specs.Prelude.{◌≡◌, ◌<◌, ◌≤◌, All};
 ghost use Rattle.dir_slice.specs.Directory.{farthest};
 ghost use Rattle.dir_slice.specs.Line.{awaited, is_busy};
-ghost use Rattle.dir_slice.specs.Inner.{state_of, memory_after, IsSite, StateIsWithin};
+ghost use Rattle.dir_slice.specs.Inner.{state_of, IsSite, StateIsWithin};
 
 use mesh_model::hops;
 use node_set::NodeSet;
-use sim_base::{Config, LineData, NodeId};
+use sim_base::{Config, NodeId};
 use std::marker::Model;
+use wire_msg::Want;
 
 /// A request for a line, which waits until its turn comes.
 #[derive(Clone, Copy)]
 pub(crate) struct Request {
     /// The node that asks.
     pub(crate) from: NodeId,
-    /// Whether it asks to write, or only to read.
-    pub(crate) write: bool,
+    /// What it wants the line for.
+    pub(crate) want: Want,
 }
 
 impl Model for Request {
@@ -24,34 +24,9 @@ impl Model for Request {
 
     ghost Value = { Request };
 
-    ghost view = { λ q. record { from = q.from; write = q.write } };
+    ghost view = { λ q. record { from = q.from; want = q.want } };
 
-    ghost inverse = { λ q. record { from = q.from; write = q.write } };
-}
-
-/// What a node answers to a line's home.
-#[derive(Clone, Copy)]
-pub(crate) enum Answer {
-    /// It dropped its copy.
-    Dropped,
-    /// The owner shares the line or gives it up, as it was asked to.
-    Fetched { content: LineData },
-    /// The owner gives the line up by itself.
-    GivenUp { content: LineData },
-}
-
-impl Answer {
-    /// The data that the answer brings is the home's memory from then on, if it brings any.
-    #[inline]
-    pub(crate) fn store(&self, memory: &mut LineData)
-        ensures { memory.new ≡ memory_after self.now memory.old }
-    {
-        match self {
-            Answer::Dropped => {}
-            Answer::Fetched { content } => *memory = *content,
-            Answer::GivenUp { content } => *memory = *content,
-        }
-    }
+    ghost inverse = { λ q. record { from = q.from; want = q.want } };
 }
 
 /// Who holds a line, as its home knows, and which transaction is under way.
@@ -74,7 +49,7 @@ pub(crate) enum State {
     },
     /// A reader or a writer waits until the owner has shared the line or given it up.
     BusyFetch {
-        write: bool,
+        want: Want,
         requester: NodeId,
         owner: NodeId,
     },

@@ -176,9 +176,9 @@ fn tell(alloc: Global, dir: &mut Dir, told: Told, out: &mut Out) -> Result<(), N
         Told::GetS(from) if from <= 4 => dir.request(alloc, &config, from, LINE, false, out),
         Told::GetM(from) if from <= 4 => dir.request(alloc, &config, from, LINE, true, out),
         Told::GetS(_) | Told::GetM(_) => Ok(()),
-        Told::Ack(from) => dir.ack(alloc, &config, from, LINE, out),
-        Told::Fetched(from, byte) => { dir.fetched(alloc, &config, from, LINE, &filled(byte), out) }
-        Told::Put(from, byte) => dir.put(alloc, &config, from, LINE, &filled(byte), out),
+        Told::Ack(from) => dir.ack(&config, from, LINE, out),
+        Told::Fetched(from, byte) => { dir.fetched(&config, from, LINE, &filled(byte), out) }
+        Told::Put(from, byte) => dir.put(&config, from, LINE, &filled(byte), out),
     }
 }
 

@@ -1,11 +1,15 @@
 -- What nodes send one another: which node may send what to which, by what they do in the machine, and what a message
 -- says of a line of memory, without delays. This simulator's own, after Graphite (HPCA 2010).
-use Rattle.std.specs.Prelude.{ℕ, ◌==◌, ◌&&◌, ◌||◌, Bool, true, false, nat_lt, List, Option, Some, None, if◌then◌else◌}
+use Rattle.std.specs.Prelude.{ℕ, ◌==◌, ◌&&◌, ◌||◌, Bool, false, nat_lt, List, Option, Some, None, if◌then◌else◌}
 use Rattle.std.specs.List.{filter_map}
 use Rattle.std.specs.Option.{option_map_or}
 use Rattle.sim_base.specs.declared.lines.LineData.{LineData}
 use Rattle.sim_base.specs.declared.settings.Config.{Config}
 use Rattle.sim_base.specs.Numbering.{node_count, control_node, host_of, home_of}
+use Rattle.wire_msg.specs.declared.lines.Want.{Want}
+use Rattle.wire_msg.specs.declared.lines.Want.TheVariants.{Read, Write}
+use Rattle.wire_msg.specs.declared.lines.Up.{Up}
+use Rattle.wire_msg.specs.declared.lines.Up.TheVariants.{Asks, GivesUp, Acknowledges, HandsOver}
 use Rattle.wire_msg.specs.declared.messages.Msg.{Msg}
 use Rattle.wire_msg.specs.declared.messages.Msg.TheVariants.{GetS, GetM, PutM, InvAck, FetchAck, DataS, DataM, Inv, Fetch, FetchInv, Call, Return, Start, Exit, Trapped, Reached, Limit, Probe, ProbeReply}
 
@@ -68,20 +72,12 @@ may_send c from to (ProbeReply running clock) = goes c tile tile from to
 
 -- what messages say of a line: those to its home go up, those from its home go down
 
--- what a node tells a line's home: it asks for the line, to read or (true) to write; it gives up the line that it had
--- to write; it has dropped its copy; it answers a fetch
-pub data Up : Type 0 where
-  asks : Bool → Up
-  gives_up : LineData → Up
-  acknowledges : Up
-  answers : LineData → Up
-
--- what a line's home tells a node: here is the line, to read or (true) to write; drop the copy; hand the line back,
--- for a reader (and keep it to read) or (true) for a writer
+-- what a line's home tells a node: here is the line, to read or to write; drop the copy; hand the line over, for a reader
+-- (and keep it to read) or for a writer
 pub data Down : Type 0 where
-  gives : Bool → LineData → Down
+  gives : Want → LineData → Down
   drops : Down
-  fetches : Bool → Down
+  fetches : Want → Down
 
 -- the line that a message is about
 abbrev pub line_of : Msg → Option ℕ
@@ -99,20 +95,20 @@ line_of _ = None
 
 -- what it says to the line's home
 abbrev pub up_of : Msg → Option Up
-up_of (GetS line) = Some (asks false)
-up_of (GetM line) = Some (asks true)
-up_of (PutM line content) = Some (gives_up content)
-up_of (InvAck line) = Some acknowledges
-up_of (FetchAck line content) = Some (answers content)
+up_of (GetS line) = Some (Asks Read)
+up_of (GetM line) = Some (Asks Write)
+up_of (PutM line content) = Some (GivesUp content)
+up_of (InvAck line) = Some Acknowledges
+up_of (FetchAck line content) = Some (HandsOver content)
 up_of _ = None
 
 -- what it says from the line's home
 abbrev pub down_of : Msg → Option Down
-down_of (DataS line content delay) = Some (gives false content)
-down_of (DataM line content delay) = Some (gives true content)
+down_of (DataS line content delay) = Some (gives Read content)
+down_of (DataM line content delay) = Some (gives Write content)
 down_of (Inv line) = Some drops
-down_of (Fetch line) = Some (fetches false)
-down_of (FetchInv line) = Some (fetches true)
+down_of (Fetch line) = Some (fetches Read)
+down_of (FetchInv line) = Some (fetches Write)
 down_of _ = None
 
 -- whether a message is about a line

@@ -5,10 +5,12 @@
 mod calls;
 mod envelopes;
 pub mod error_numbers;
+mod lines;
 mod messages;
 mod routes;
 
 pub use calls::Call;
 pub use envelopes::{Envelope, Out};
+pub use lines::{Up, Want};
 pub use messages::Msg;
 pub use sim_base::{Bytes, Line, LineData, NodeId};

@@ -10,7 +10,7 @@ use Rattle.dir_slice.proofs.home.Home.take_up.Goals as goal
 pub farthest-remote-requires-clause-within : goal.farthest-remote-requires-clause-within
 farthest-remote-requires-clause-within c =
     let in_range = rw (← c.self.view_is) at c.requires.within in
-    served_within c.args.site.config.now.tiles (state_of c.self.inside.state) (state_of c.serve-sends.new.self) c.serve-sends.result c.args.request.write c.args.request.from in_range.state
+    served_within c.args.site.config.now.tiles (state_of c.self.inside.state) (state_of c.serve-sends.new.self) c.serve-sends.result c.args.request.want c.args.request.from in_range.state
     c.requires.from_in_range c.serve-sends.ensures
 
 pub returns-clause-mail : goal.returns-clause-mail
