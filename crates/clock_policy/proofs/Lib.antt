@@ -1,1 +1,2 @@
 pub mod MemberLists
+pub mod Ascending

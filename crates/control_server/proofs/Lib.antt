@@ -3,6 +3,9 @@ pub mod Waking
 pub mod Freest
 pub mod Counting
 pub mod Active
+pub mod Parkings
+pub mod Moves
+pub mod Members
 pub mod Settled
 pub mod Outcome
 pub mod Served

@@ -21,11 +21,15 @@ use Rattle.serving.specs.declared.control_data.Request.{Request}
 use Rattle.serving.specs.declared.control_data.Request.TheVariants.{Call as CallRequest, Exit as ExitRequest, Trap}
 use Rattle.serving.specs.ControlData.{ControlData}
 use Rattle.serving.specs.Serving.{Served, Born, serve}
+use Rattle.clock_policy.specs.Members.{reported, standing}
+use Rattle.clock_policy.proofs.Ascending.{threads_of-reported, threads_of-advanced}
 use Rattle.control_server.specs.Control.{Control, Act, Waiting, Check, quiet, waits, is_active, has_request, is_placed, is_placed_request, is_checked, free_at_start, start_control, IsAsked, AreApart, IsCheckableIfAny, IsOrderly, IsInOrder}
-use Rattle.control_server.specs.Serve.{serves, checks, begins, step_by, control_step, can_step, none_waits, line_at, free_born, free_left, freest_host}
+use Rattle.control_server.specs.Serve.{serves, checks, begins, step_by, control_step, can_step, none_waits, line_at, free_born, free_left, freest_host, may_close, epochs_served}
 use Rattle.control_server.specs.Deliver.{admits, admitted, request_taken, call_taken, data_taken, request_of, word_in, taken, taken_late, taken_by, control_delivered}
 use Rattle.control_server.proofs.Active.{IsActive, active_parts, active_from}
 use Rattle.control_server.proofs.Keeping.{Keeps, keeps}
+use Rattle.control_server.proofs.Moves.{Moves, moves}
+use Rattle.control_server.proofs.Members.{AreActive, members_active, members_listed, served_members, closed_threads}
 
 neither : (a b : Bool) → (a || b) ≡ false → (a ≡ false) × (b ≡ false)
 neither false false e = (refl, refl)
@@ -41,6 +45,8 @@ start_orderly w = record {
   hosts = length-map-range_with_len (free_at_start w.config) 0 w.config.hosts;
   numbers = omega arith;
   threads = refl;
+  parked = λ t. omega arith;
+  members = refl;
   asked = All-nil (IsAsked w (start_control w).control);
   apart = tt;
   checked = tt;
@@ -70,14 +76,18 @@ length-free_left w from (ExitRequest code) free = length-set free (host_of w.con
 length-free_left w from (Trap cause pc) free = refl
 
 -- a request was served
-pub served_orderly : (w : Setup) (c : Control) (q : Waiting) (word : ℕ) → IsOrderly w c → list_any (waits q.thread) c.backlog ≡ false → c.checking ≡ None → IsOrderly w (serves w c q word).control
-served_orderly w c q word h alone idle =
+pub served_orderly : (w : Setup) (c : Control) (q : Waiting) (word : ℕ) → IsOrderly w c → is_active c.control q.thread ≡ true → list_any (waits q.thread) c.backlog ≡ false → c.checking ≡ None → IsOrderly w (serves w c q word).control
+served_orderly w c q word h active alone idle =
     let made : Served = serve w c.control q.thread q.request word (none_waits c.backlog) in
+    let m : Moves c.control q.thread made = moves w c.control q.thread q.request word (none_waits c.backlog) h.parked (active_parts c.control q.thread active) in
+    let after : AreActive (epochs_served made.control q.thread made c.epochs).members made.control = served_members c.control q.thread made c.epochs (members_active c.epochs.members c.control h.members) active m in
     let k : Keeps c.control q.thread made = keeps w c.control q.thread q.request word (none_waits c.backlog) h.numbers in
     record {
       hosts = length-free_left w q.from q.request (free_born made.born c.free) ∙ length-free_born made.born c.free ∙ h.hosts;
       numbers = k.numbers;
       threads = k.begun c.callers h.threads;
+      parked = m.parked;
+      members = closed_threads (may_close made.own made.control.ended) (epochs_served made.control q.thread made c.epochs) ∙ members_listed (epochs_served made.control q.thread made c.epochs).members made.control after;
       asked = asked_kept w c.control made.control q.thread c.backlog k.others alone h.asked;
       apart = h.apart;
       checked = subst (IsCheckableIfAny w made.control c.backlog) (sym idle) tt;
@@ -90,6 +100,8 @@ checks_orderly w c q addr value h asked placed alone = record {
   hosts = h.hosts;
   numbers = h.numbers;
   threads = h.threads;
+  parked = h.parked;
+  members = h.members;
   asked = h.asked;
   apart = h.apart;
   checked = record { active = asked.active; sender = asked.sender; placed = placed; alone = alone };
@@ -98,7 +110,7 @@ checks_orderly w c q addr value h asked placed alone = record {
 begins_orderly : (w : Setup) (c : Control) (q : Waiting) (request : Request) → request ≡ q.request → IsOrderly w c → IsAsked w c.control q → list_any (waits q.thread) c.backlog ≡ false → c.checking ≡ None
     → IsOrderly w (begins w c q request).control
 begins_orderly w c q (CallRequest (FutexWait addr value)) e h asked alone idle = checks_orderly w c q addr value h asked (eqb-true (addr % 4) 0 (ap is_placed_request e ∙ asked.placed)) alone
-begins_orderly w c q _ e h asked alone idle = served_orderly w c q 0 h alone idle
+begins_orderly w c q _ e h asked alone idle = served_orderly w c q 0 h asked.active alone idle
 
 -- the first request leaves the backlog
 rest_orderly : (w : Setup) (c : Control) (q : Waiting) (rest : List Waiting) → c.backlog ≡ q ∷ rest → c.checking ≡ None → IsOrderly w c → IsOrderly w (record c { backlog = rest })
@@ -109,6 +121,8 @@ rest_orderly w c q rest e idle h =
       hosts = h.hosts;
       numbers = h.numbers;
       threads = h.threads;
+      parked = h.parked;
+      members = h.members;
       asked = All-tail (IsAsked w c.control) q rest asked;
       apart = apart.1;
       checked = subst (IsCheckableIfAny w c.control rest) (sym idle) tt;
@@ -161,6 +175,8 @@ admitted_orderly w c q callers h admits sender placed same =
       hosts = h.hosts;
       numbers = h.numbers;
       threads = same ∙ h.threads;
+      parked = h.parked;
+      members = h.members;
       asked = All-push (IsAsked w c.control) c.backlog q h.asked (record { active = parts.0; sender = sender; placed = placed });
       apart = apart_push c.backlog q h.apart free.0;
       checked = checkable_push w c.control c.backlog q c.checking free.1 h.checked;
@@ -180,7 +196,7 @@ request_orderly w c q h sender placed = orderly_cond w (admits c q.thread) c _ h
 
 -- the word that is being checked comes
 idle_orderly : (w : Setup) (c : Control) → IsOrderly w c → IsOrderly w (record c { checking = None })
-idle_orderly w c h = record { hosts = h.hosts; numbers = h.numbers; threads = h.threads; asked = h.asked; apart = h.apart; checked = tt }
+idle_orderly w c h = record { hosts = h.hosts; numbers = h.numbers; threads = h.threads; parked = h.parked; members = h.members; asked = h.asked; apart = h.apart; checked = tt }
 
 data_orderly_cond : (w : Setup) (b : Bool) (c : Control) (act : Act) → IsOrderly w c → IsOrderly w act.control → IsOrderly w (cond b act (quiet c)).control
 data_orderly_cond w true c act h k = k
@@ -190,7 +206,7 @@ data_orderly : (w : Setup) (c : Control) (line : ℕ) (content : LineData) (o : 
 data_orderly w c line content None k h = h
 data_orderly w c line content (Some check) k h =
     data_orderly_cond w (nat_eq (line_at check.addr) line) c _ h
-    (served_orderly w (record c { checking = None }) (request_of check) (word_in content check.addr) (idle_orderly w c h) k.alone refl)
+    (served_orderly w (record c { checking = None }) (request_of check) (word_in content check.addr) (idle_orderly w c h) k.active k.alone refl)
 
 -- who sends is a node
 tile_node : (c : Config) (from to : ℕ) (b : Bool) → (nat_lt from c.tiles && b) ≡ true → from < node_count c
@@ -208,7 +224,16 @@ taken_orderly : (w : Setup) (c : Control) (from : ℕ) (msg : Msg) → may_send 
 taken_orderly w c from (Call thread time call) sends h = call_orderly w c from thread time call h (tile_node w.config from (control_node w.config) _ sends)
 taken_orderly w c from (Exit thread code time) sends h = request_orderly w c (record { thread = thread; from = from; time = time; request = ExitRequest code }) h (local_node_sends w.config from 0 sends) refl
 taken_orderly w c from (Trapped thread cause pc) sends h = request_orderly w c (record { thread = thread; from = from; time = 0; request = Trap cause pc }) h (tile_node w.config from (control_node w.config) _ sends) refl
-taken_orderly w c from (Reached thread) sends h = record { hosts = h.hosts; numbers = h.numbers; threads = h.threads; asked = h.asked; apart = h.apart; checked = h.checked }
+taken_orderly w c from (Reached thread) sends h = record {
+  hosts = h.hosts;
+  numbers = h.numbers;
+  threads = h.threads;
+  parked = h.parked;
+  members = threads_of-advanced (standing (reported thread from c.epochs.members)) (record c.epochs { members = reported thread from c.epochs.members }) ∙ threads_of-reported thread from c.epochs.members ∙ h.members;
+  asked = h.asked;
+  apart = h.apart;
+  checked = h.checked;
+}
 taken_orderly w c from (DataS line content delay) sends h = data_orderly w c line content c.checking h.checked h
 taken_orderly w c from (Inv line) sends h = h
 taken_orderly w c from _ sends h = h

@@ -1,6 +1,6 @@
 -- The control server: it serves the threads' requests one by one, in the order in which they came. After Graphite's
 -- master control program (HPCA 2010).
-use Rattle.std.specs.Prelude.{ℕ, ◌-◌, ◌%◌, ◌^◌, ◌<◌, ◌≡◌, ◌==◌, ◌&&◌, ◌||◌, not, Bool, true, false, List, [], ◌∷◌, length, map, count_by, slice_get, if◌then◌else◌, Option, Some, None, All}
+use Rattle.std.specs.Prelude.{ℕ, ◌+◌, ◌-◌, ◌%◌, ◌^◌, ◌<◌, ◌≤◌, ◌≡◌, ◌==◌, ◌&&◌, ◌||◌, not, Bool, true, false, List, [], ◌∷◌, length, map, filter, count_by, slice_get, if◌then◌else◌, Option, Some, None, All}
 use Rattle.std.specs.List.{list_any, range_with_len}
 use Rattle.std.specs.Option.{option_map_or}
 use Rattle.sim_base.specs.declared.actions.Action.{Action}
@@ -12,7 +12,7 @@ use Rattle.wire_msg.specs.declared.calls.Call.TheVariants.{FutexWait}
 use Rattle.wire_msg.specs.declared.messages.Msg.{Msg}
 use Rattle.serving.specs.declared.control_data.Request.{Request}
 use Rattle.serving.specs.declared.control_data.Request.TheVariants.{Call as CallRequest}
-use Rattle.serving.specs.ControlData.{ControlData, start_data, is_live, is_parked}
+use Rattle.serving.specs.ControlData.{ControlData, start_data, is_live, is_joiner, is_parked}
 use Rattle.clock_policy.specs.Epoch.{Epoch, start_epoch}
 
 -- a request that waits to be served: its thread, the node that sent it, the thread's clock then, and what is asked
@@ -78,6 +78,18 @@ is_live_thread c thread = option_map_or is_live (slice_get c.fates thread) false
 abbrev pub is_active : ControlData → ℕ → Bool
 is_active c thread = is_live_thread c thread && not (is_parked c thread)
 
+-- the active threads, in ascending order
+abbrev pub active_threads : ControlData → List ℕ
+active_threads c = filter (is_active c) (range_with_len 0 (length c.fates))
+
+-- in how many places a thread is parked: at words, and joining others
+abbrev pub parkings : ControlData → ℕ → ℕ
+parkings c thread = count_by (λ w. w.thread == thread) c.waiters + count_by (is_joiner thread) c.fates
+
+-- a live thread is parked in one place at most, and another number nowhere
+abbrev pub AreParkedOnce : ControlData → Type 0
+AreParkedOnce c = (thread : ℕ) → parkings c thread ≤ (if is_live_thread c thread then 1 else 0)
+
 -- whether a thread has a request at the control server: it waits, or is being checked
 abbrev pub waits : ℕ → Waiting → Bool
 waits thread q = q.thread == thread
@@ -121,11 +133,14 @@ IsCheckableIfAny w kept backlog None = Unit {0}
 IsCheckableIfAny w kept backlog (Some check) = IsCheckable w kept backlog check
 
 -- what is known of a control server whose memory lasts: it has a count for each host and a tile for each thread; threads
--- have numbers of 32 bits; and no thread has two of the requests that wait or are being checked
+-- have numbers of 32 bits; each is parked in one place at most; the epoch's members are the active threads, in ascending
+-- order; and no thread has two of the requests that wait or are being checked
 pub record IsOrderly (w : Setup) (c : Control) : Type 0 where
   pub hosts : length c.free ≡ w.config.hosts
   pub numbers : length c.control.fates < 2 ^ 32
   pub threads : length c.callers ≡ length c.control.fates
+  pub parked : AreParkedOnce c.control
+  pub members : map (λ m. m.thread) c.epochs.members ≡ active_threads c.control
   pub asked : All (IsAsked w c.control) c.backlog
   pub apart : AreApart c.backlog
   pub checked : IsCheckableIfAny w c.control c.backlog c.checking

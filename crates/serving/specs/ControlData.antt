@@ -52,3 +52,13 @@ is_joining fates thread = list_any (is_joiner thread) fates
 -- whether a thread is parked
 abbrev pub is_parked : ControlData → ℕ → Bool
 is_parked c thread = is_waiting c.waiters thread || is_joining c.fates thread
+
+-- for which threads' exits a thread's parking waits, ascending: for those that it is parked joining. One that is parked at
+-- a word waits for whoever wakes it, and so for no certain thread
+abbrev pub joined_from : ℕ → ℕ → List Fate → List ℕ
+joined_from thread number [] = []
+joined_from thread number (fate ∷ fates) =
+    if is_joiner thread fate then number ∷ joined_from thread (number + 1) fates else joined_from thread (number + 1) fates
+
+abbrev pub waits_for : ControlData → ℕ → List ℕ
+waits_for c thread = joined_from thread 0 c.fates

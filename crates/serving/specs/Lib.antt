@@ -4,5 +4,6 @@ pub mod ControlData
 pub mod Join
 pub mod Wake
 pub mod Serving
+pub mod Laws
 pub use Rattle.elf_image.specs.Image
 pub use Rattle.elf_image.specs.Layout

@@ -5,7 +5,9 @@
 mod answers;
 mod control_data;
 mod joins;
+mod laws;
 
 pub use answers::{MOST_THREADS, break_after, write_output};
 pub use control_data::{Fate, Join, Request, Waiter};
 pub use joins::{join_by, joiner_by};
+pub use laws::parking_waits_for_joined;
