@@ -1,3 +1,4 @@
+pub mod Request
 pub mod Words
 pub mod SettingsFile
 pub mod Inner
