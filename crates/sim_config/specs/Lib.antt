@@ -1,5 +1,4 @@
--- The definitions of what the words and a settings file mean.
-
+pub mod Request
 pub mod Words
 pub mod SettingsFile
 pub mod Inner

@@ -7,8 +7,8 @@ use Rattle.std.specs.Str.{bytes_eq}
 use Rattle.std.specs.Str.Parse.{digits_value}
 use Rattle.sim_base.specs.declared.kinds.Kind.{Kind}
 use Rattle.sim_base.specs.declared.kinds.Kind.TheVariants.{Lock, Barrier, Pipeline, Reduce}
-use Rattle.sim_config.specs.declared.words.Request.{Request}
-use Rattle.sim_config.specs.declared.words.Request.TheVariants.{Run, Replay, Gen, Bench}
+use Rattle.sim_config.specs.declared.request.Request.{Request}
+use Rattle.sim_config.specs.declared.request.Request.TheVariants.{Run, Replay, Gen, Bench}
 use Rattle.sim_config.specs.declared.faults.RequestFault.{RequestFault}
 use Rattle.sim_config.specs.declared.faults.RequestFault.TheVariants.{Usage, NoMemory}
 

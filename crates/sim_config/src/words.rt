@@ -11,40 +11,11 @@ use crate::faults::RequestFault;
 use crate::forms::{Form, bench_form, gen_form, replay_form, run_form};
 use crate::matching::matches_of;
 use crate::numbers::number_of;
+use crate::request::Request;
 use crate::rules::keeps_rules;
 use clap::ArgMatches;
 use sim_base::{Kind, NoMemory, Text};
 use std::alloc::Global;
-
-/// What the words of the command line ask for. Files are named by their paths.
-#[derive(Drop)]
-pub enum Request {
-    /// To run an image, under the settings of a file or the default ones, with a seed in place of the settings', and to
-    /// write the run's journal to a file.
-    Run {
-        image: Text,
-        config: Option<Text>,
-        seed: Option<u64>,
-        journal: Option<Text>,
-    },
-    /// To make the run of a journal's file again, under the same settings.
-    Replay {
-        image: Text,
-        journal: Text,
-        config: Option<Text>,
-        seed: Option<u64>,
-    },
-    /// To write the workload of a kind and a seed to a file.
-    Gen {
-        kind: Kind,
-        seed: u64,
-        out: Text,
-    },
-    /// To run the workload `reduce` of a seed, on 16 tiles.
-    Bench {
-        seed: u64,
-    },
-}
 
 /// The request that the words after the program's name mean. The first is the command:
 ///

@@ -9,8 +9,8 @@ use Rattle.elf_image.specs.Image.{Program, image_of}
 use Rattle.elf_image.specs.declared.refusal.ImageFault.{ImageFault}
 use Rattle.elf_image.specs.Layout.{Setup}
 use Rattle.event_journal.specs.declared.events.Event.{Event}
-use Rattle.sim_config.specs.declared.words.Request.{Request}
-use Rattle.sim_config.specs.declared.words.Request.TheVariants.{Run, Replay, Gen, Bench}
+use Rattle.sim_config.specs.declared.request.Request.{Request}
+use Rattle.sim_config.specs.declared.request.Request.TheVariants.{Run, Replay, Gen, Bench}
 use Rattle.sim_config.specs.SettingsFile.{settings}
 use Rattle.sim_top.specs.declared.outcomes.FileToWrite.{FileToWrite}
 use Rattle.sim_top.specs.declared.outcomes.JournalFault.{JournalFault}

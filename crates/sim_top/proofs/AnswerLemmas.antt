@@ -7,8 +7,8 @@ use Rattle.sim_outside.specs.Fault.{Rose}
 use Rattle.sim_outside.specs.Told.{Contents, Took}
 use Rattle.elf_image.specs.Layout.{Setup}
 use Rattle.event_journal.specs.declared.events.Event.{Event}
-use Rattle.sim_config.specs.declared.words.Request.{Request}
-use Rattle.sim_config.specs.declared.words.Request.TheVariants.{Gen}
+use Rattle.sim_config.specs.declared.request.Request.{Request}
+use Rattle.sim_config.specs.declared.request.Request.TheVariants.{Gen}
 use Rattle.sim_config.specs.Words.{meaning}
 use Rattle.sim_top.specs.declared.outcomes.Decision.{Decision}
 use Rattle.sim_top.specs.declared.outcomes.FileToWrite.{FileToWrite}

@@ -16,7 +16,7 @@ use Rattle.node_machine.proofs.TrappingRuns.{trap_has_cause}
 use Rattle.seq_driver.specs.Driven.{state_after, IsRan}
 use Rattle.stats_report.specs.Report.{core_text}
 use Rattle.stats_report.proofs.ShownText.{text-of_state}
-use Rattle.sim_config.specs.declared.words.Request.{Request}
+use Rattle.sim_config.specs.declared.request.Request.{Request}
 use Rattle.sim_config.specs.Words.{meaning}
 use Rattle.sim_top.specs.declared.outcomes.Decision.{Decision}
 use Rattle.sim_top.specs.declared.outcomes.Outcome.{Outcome}

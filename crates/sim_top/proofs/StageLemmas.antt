@@ -17,8 +17,8 @@ use Rattle.journal_file.specs.declared.refusal.JournalRefusal.{JournalRefusal}
 use Rattle.journal_file.specs.declared.refusal.JournalRefusal.TheVariants.{TooLong as FileTooLong, Byte as FileByte, NoMemory as FileNoMemory}
 use Rattle.journal_file.specs.Reading.{reading, told, fault_place}
 use Rattle.node_machine.specs.declared.cores.Ran.{Ran}
-use Rattle.sim_config.specs.declared.words.Request.{Request}
-use Rattle.sim_config.specs.declared.words.Request.TheVariants.{Run, Replay, Bench}
+use Rattle.sim_config.specs.declared.request.Request.{Request}
+use Rattle.sim_config.specs.declared.request.Request.TheVariants.{Run, Replay, Bench}
 use Rattle.sim_config.specs.SettingsFile.{settings}
 use Rattle.sim_top.specs.declared.outcomes.Halt.{Halt}
 use Rattle.sim_top.specs.declared.outcomes.Halt.TheVariants.{Refused, NoMemory}

@@ -5,7 +5,7 @@ use Rattle.sim_outside.specs.Fault.{Rose}
 use Rattle.sim_outside.specs.Told.{Contents, Took, Wrote, HoldsAllBut}
 use Rattle.event_journal.specs.declared.events.Event.{Event}
 use Rattle.journal_file.specs.File.{journal_bytes}
-use Rattle.sim_config.specs.declared.words.Request.{Request}
+use Rattle.sim_config.specs.declared.request.Request.{Request}
 use Rattle.sim_config.specs.Words.{meaning}
 use Rattle.sim_top.specs.declared.outcomes.FileToWrite.{FileToWrite}
 use Rattle.sim_top.specs.declared.outcomes.Outcome.{Outcome}

@@ -9,8 +9,8 @@ use Rattle.sim_outside.specs.Told.{Contents, Holds}
 use Rattle.elf_image.specs.declared.refusal.ImageFault.{ImageFault}
 use Rattle.elf_image.specs.Image.{Program, image_of}
 use Rattle.elf_image.specs.Layout.{Setup}
-use Rattle.sim_config.specs.declared.words.Request.{Request}
-use Rattle.sim_config.specs.declared.words.Request.TheVariants.{Run, Replay, Gen, Bench}
+use Rattle.sim_config.specs.declared.request.Request.{Request}
+use Rattle.sim_config.specs.declared.request.Request.TheVariants.{Run, Replay, Gen, Bench}
 use Rattle.sim_config.specs.SettingsFile.{settings}
 use Rattle.workload_gen.specs.Workload.{IsWorkload}
 

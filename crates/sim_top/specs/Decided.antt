@@ -20,8 +20,8 @@ use Rattle.coherence_laws.specs.Laws.{line_value}
 use Rattle.seq_driver.specs.Driven.{state_after, IsJournal, IsDrawn, IsStuck}
 use Rattle.seq_driver.specs.Replayed.{IsFirstRefused, IsUnfinished}
 use Rattle.stats_report.specs.Report.{state_text}
-use Rattle.sim_config.specs.declared.words.Request.{Request}
-use Rattle.sim_config.specs.declared.words.Request.TheVariants.{Run, Replay, Gen, Bench}
+use Rattle.sim_config.specs.declared.request.Request.{Request}
+use Rattle.sim_config.specs.declared.request.Request.TheVariants.{Run, Replay, Gen, Bench}
 use Rattle.workload_gen.specs.Workload.{IsWorkload}
 use Rattle.sim_top.specs.declared.outcomes.FileToWrite.{FileToWrite}
 use Rattle.sim_top.specs.declared.outcomes.JournalFault.{JournalFault}

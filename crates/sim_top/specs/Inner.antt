@@ -12,8 +12,8 @@ use Rattle.elf_image.specs.Layout.{Setup}
 use Rattle.node_machine.specs.declared.cores.Ran.{Ran}
 use Rattle.seq_driver.specs.Driven.{IsRan, IsDrawn, IsStuck}
 use Rattle.seq_driver.specs.Replayed.{IsFirstRefused, IsUnfinished}
-use Rattle.sim_config.specs.declared.words.Request.{Request}
-use Rattle.sim_config.specs.declared.words.Request.TheVariants.{Gen}
+use Rattle.sim_config.specs.declared.request.Request.{Request}
+use Rattle.sim_config.specs.declared.request.Request.TheVariants.{Gen}
 use Rattle.sim_top.specs.declared.outcomes.Decision.{Decision}
 use Rattle.sim_top.specs.declared.outcomes.Halt.{Halt}
 use Rattle.sim_top.specs.declared.outcomes.Halt.TheVariants.{Refused, NoMemory}

@@ -4,7 +4,7 @@ ghost use Rattle.std.specs.Prelude.{◌≡◌, ◌≤◌, IfOk};
 ghost use Rattle.sim_base.specs.Settings.{IsChecked};
 ghost use Rattle.journal_file.specs.File.{journal_bytes};
 ghost use Rattle.seq_driver.specs.Driven.{IsRan};
-ghost use Rattle.sim_config.specs.declared.words.Request.TheVariants.{Gen};
+ghost use Rattle.sim_config.specs.declared.request.Request.TheVariants.{Gen};
 ghost use Rattle.sim_top.specs.Asked.{HasSettings, HasMachine, written_name, with_seed};
 ghost use Rattle.sim_top.specs.Decided.{outcome_of};
 ghost use Rattle.sim_top.specs.Inner.{AsksRun, Stage, FindsImage, IsRanFor, IsDecided, IsOfRun, IsOfWorkload, IsRefusal, Draws, Follows};

@@ -4,7 +4,7 @@ use Rattle.sim_base.specs.Settings.{IsChecked}
 use Rattle.event_journal.specs.declared.events.Event.{Event}
 use Rattle.journal_file.specs.Reading.{reading}
 use Rattle.sim_top.specs.Asked.{ReadsAs, replayed_name}
-use Rattle.sim_config.specs.declared.words.Request.TheVariants.{Replay}
+use Rattle.sim_config.specs.declared.request.Request.TheVariants.{Replay}
 use Rattle.sim_top.specs.Inner.{Accepts, journal_refusal}
 use Rattle.sim_top.proofs.StageLemmas.{journal_halt, drawn_stage, benched_stage, followed_stage}
 use Rattle.sim_top.proofs.decision.run.Goals as goal
