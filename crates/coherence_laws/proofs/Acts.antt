@@ -16,7 +16,8 @@ use Rattle.tile_cache.specs.Copy.{Copy, absent, shared, modified, held_as}
 use Rattle.dir_slice.specs.Line.{Request, State, Uncached, Shared, Modified, BusyInv, BusyFetch}
 use Rattle.node_set.specs.NodeSet.{has_node}
 use Rattle.tile_node.specs.Tile.{is_write, place_in_line}
-use Rattle.tile_node.specs.OneLine.{wants_by, wants_write, data_written, data_after, Happening, nothing, hit, asked, came, evicted, fetched, copy_after, told_after, wants_after, hold_given, takes, waiting, heard, MayChange, MayHappen}
+use Rattle.tile_node.specs.OneLine.{wants_by, wants_write, data_written, data_after, Happening, nothing, hit, asked, came, evicted, fetched, copy_after, told_after, wants_after, hold_given, takes, waiting, heard}
+use Rattle.tile_node.specs.OneLineLaws.{MayChange, MayHappen}
 use Rattle.coherence_laws.specs.Part.{Part}
 use Rattle.coherence_laws.specs.Laws.{value_after}
 use Rattle.coherence_laws.proofs.Phases.{stranger, owner, Phase, shares, reads, upgrades, loses, reads_loses, writes, answers_shared, copy_there, standing_of, requests_of, phase_copy, phase_want, phase_down, part_in, standing, Fits, Comes, asked_for, with_dropped, with_line, with_fetch, without_copy}

@@ -17,7 +17,8 @@ use Rattle.tile_cache.specs.Copy.{absent}
 use Rattle.dir_slice.specs.Line.{State as DirState, Uncached, Shared, Modified, BusyInv, BusyFetch, Home}
 use Rattle.dir_slice.specs.Inner.{StateIsWithin}
 use Rattle.node_set.specs.NodeSet.{has_node}
-use Rattle.tile_node.specs.OneLine.{dropped_copy, IsFromHome}
+use Rattle.tile_node.specs.OneLine.{dropped_copy}
+use Rattle.tile_node.specs.OneLineLaws.{IsFromHome}
 use Rattle.control_server.specs.Control.{Control, Act, Check}
 use Rattle.control_server.specs.Serve.{line_at, can_step, control_step}
 use Rattle.control_server.specs.Deliver.{acknowledges as acknowledged_by, control_delivered}

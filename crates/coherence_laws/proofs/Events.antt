@@ -23,7 +23,8 @@ use Rattle.dir_slice.specs.Directory.{home_at}
 use Rattle.dir_slice.proofs.Unfiled.{starts_as_the_image}
 use Rattle.tile_node.specs.Tile.{Tile as TileData, start_tile}
 use Rattle.tile_node.specs.Deliver.{tile_delivered}
-use Rattle.tile_node.specs.OneLine.{delivered_at, IsFromHome}
+use Rattle.tile_node.specs.OneLine.{delivered_at}
+use Rattle.tile_node.specs.OneLineLaws.{IsFromHome}
 use Rattle.tile_node.proofs.OneLineHomes.{deliver_stays, start_empty}
 use Rattle.tile_node.proofs.OneLinePlain.{step_stays, deliver_leaves}
 use Rattle.tile_node.proofs.OneLineSent.{deliver_downs}

@@ -11,7 +11,7 @@ use Rattle.wire_msg.specs.declared.messages.Msg.{Msg}
 use Rattle.wire_msg.specs.declared.messages.Msg.TheVariants.{GetS, GetM, PutM, InvAck, FetchAck}
 use Rattle.wire_msg.specs.Message.{Up, asks, gives_up, acknowledges, answers, line_of, up_of, down_of, is_about, up_about, down_about, ups}
 use Rattle.tile_node.specs.Tile.{Act, Told, told_message, up_message, sent_by}
-use Rattle.tile_node.specs.OneLine.{IsToldTo, IsFromHome}
+use Rattle.tile_node.specs.OneLineLaws.{IsToldTo, IsFromHome}
 use Rattle.event_journal.specs.State.{messages_to}
 use Rattle.coherence_laws.proofs.Nodes.{equal}
 

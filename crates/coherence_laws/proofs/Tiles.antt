@@ -32,7 +32,8 @@ use Rattle.tile_core.specs.Plan.{plan_of}
 use Rattle.tile_cache.specs.declared.ways.Way.{Way}
 use Rattle.tile_cache.specs.Cache.{way_of}
 use Rattle.rv_exec.specs.Access.{Asked}
-use Rattle.tile_node.specs.OneLine.{wants, Happening, nothing, copy_after, told_after, wants_after, heard, needs, needs_at, follows_at, writes_at, works_at, step_at, delivered_at, Shows, MayHappen, IsFromHome, UpsAreTold}
+use Rattle.tile_node.specs.OneLine.{wants, Happening, nothing, copy_after, told_after, wants_after, heard, needs, needs_at, follows_at, writes_at, works_at, step_at, delivered_at}
+use Rattle.tile_node.specs.OneLineLaws.{Shows, MayHappen, IsFromHome, UpsAreTold}
 use Rattle.tile_node.proofs.OneLineStep.{step_shows}
 use Rattle.tile_node.proofs.OneLineDeliver.{deliver_shows}
 use Rattle.tile_node.proofs.OneLineHappens.{step_may}

@@ -12,7 +12,11 @@ use Rattle.rv_exec.specs.Access.{Asked}
 use Rattle.elf_image.specs.Layout.{Setup}
 use Rattle.wire_msg.specs.declared.messages.Msg.{Msg}
 use Rattle.wire_msg.specs.declared.messages.Msg.TheVariants.{GetS, GetM, PutM, InvAck, FetchAck, DataS, DataM, Fetch, FetchInv, Return, Start, Trapped, Limit, Probe, ProbeReply}
-use Rattle.wire_msg.specs.Message.{Up, asks, gives_up, acknowledges, answers, may_send, line_of, up_of}
+use Rattle.wire_msg.specs.declared.lines.Want.{Want}
+use Rattle.wire_msg.specs.declared.lines.Want.TheVariants.{Read, Write}
+use Rattle.wire_msg.specs.declared.lines.Up.{Up}
+use Rattle.wire_msg.specs.declared.lines.Up.TheVariants.{Asks, GivesUp, Acknowledges, HandsOver}
+use Rattle.wire_msg.specs.Message.{may_send, line_of, up_of}
 use Rattle.tile_core.specs.declared.cores.Status.{Status}
 use Rattle.tile_core.specs.declared.cores.Status.TheVariants.{Idle, Miss, Called, AtBarrier, Probing}
 use Rattle.tile_core.specs.declared.plans.Plan.{Plan}
@@ -34,11 +38,11 @@ use Rattle.node_machine.proofs.TrappingWords.{TrapFact, Tells, Mails, all_of, no
 -- what is told of lines tells of no trap
 
 up_tells : (K : TrapFact) (line : ℕ) (says : Up) → Tells K (up_message line says)
-up_tells K line (asks false) = tt
-up_tells K line (asks true) = tt
-up_tells K line (gives_up content) = tt
-up_tells K line acknowledges = tt
-up_tells K line (answers content) = tt
+up_tells K line (Asks Read) = tt
+up_tells K line (Asks Write) = tt
+up_tells K line (GivesUp content) = tt
+up_tells K line Acknowledges = tt
+up_tells K line (HandsOver content) = tt
 
 pub sent_tells : (K : TrapFact) (act : Act) → All (Mails K) act.mail → All (Mails K) (sent_by act)
 sent_tells K act mail =
@@ -112,9 +116,9 @@ data_silent : (K : TrapFact) (w : Setup) (t : Tile) (line : ℕ) (hold : Hold) (
 data_silent K w t line hold content delay (Miss access) = silent_if K (line_missed t.core.write access == line && hold_suits access hold) _ _ (no_mail K) (no_mail K)
 data_silent K w t line hold content delay _ = no_mail K
 
-fetch_silent : (K : TrapFact) (t : Tile) (from line : ℕ) (write : Bool) (found : Option Way) → All (Mails K) (fetch_by t from line write found).mail
-fetch_silent K t from line write None = no_mail K
-fetch_silent K t from line write (Some way) = silent_if K (is_only_read way.hold) _ _ (no_mail K) (no_mail K)
+fetch_silent : (K : TrapFact) (t : Tile) (from line : ℕ) (want : Want) (found : Option Way) → All (Mails K) (fetch_by t from line want found).mail
+fetch_silent K t from line want None = no_mail K
+fetch_silent K t from line want (Some way) = silent_if K (is_only_read way.hold) _ _ (no_mail K) (no_mail K)
 
 return_silent : (K : TrapFact) (w : Setup) (t : Tile) (value time limit : ℕ) (status : Status) → All (Mails K) (return_taken w t value time limit status).mail
 return_silent K w t value time limit Called = no_mail K
@@ -134,11 +138,11 @@ reply_silent K w t running clock (Probing writing partner replies) =
 reply_silent K w t running clock _ = no_mail K
 
 taken_silent : (K : TrapFact) (w : Setup) (t : Tile) (from : ℕ) (msg : Msg) → All (Mails K) (taken w t from msg).mail
-taken_silent K w t from (GetS line) = home_silent K w t from line (asks false)
-taken_silent K w t from (GetM line) = home_silent K w t from line (asks true)
-taken_silent K w t from (PutM line content) = home_silent K w t from line (gives_up content)
-taken_silent K w t from (InvAck line) = home_silent K w t from line acknowledges
-taken_silent K w t from (FetchAck line content) = home_silent K w t from line (answers content)
+taken_silent K w t from (GetS line) = home_silent K w t from line (Asks Read)
+taken_silent K w t from (GetM line) = home_silent K w t from line (Asks Write)
+taken_silent K w t from (PutM line content) = home_silent K w t from line (GivesUp content)
+taken_silent K w t from (InvAck line) = home_silent K w t from line Acknowledges
+taken_silent K w t from (FetchAck line content) = home_silent K w t from line (HandsOver content)
 taken_silent K w t from (DataS line content delay) = data_silent K w t line S content delay t.core.status
 taken_silent K w t from (DataM line content delay) = data_silent K w t line M content delay t.core.status
 taken_silent K w t from (Fetch line) = fetch_silent K t from line false (way_of t.cache line)

@@ -10,8 +10,9 @@ use Rattle.sim_base.proofs.CheckedSettings.{in_range}
 use Rattle.rv_exec.specs.declared.access.AccessOp.{AccessOp}
 use Rattle.rv_exec.specs.declared.access.AccessOp.TheVariants.{Load, Store, Lr, Sc, Amo}
 use Rattle.rv_exec.specs.Access.{Asked, IsAccess, finish_by, finish_of, is_size}
+use Rattle.wire_msg.specs.declared.lines.Want.TheVariants.{Write}
 use Rattle.wire_msg.specs.Message.{goes_home}
-use Rattle.tile_node.specs.Tile.{is_write}
+use Rattle.tile_node.specs.Tile.{access_want}
 
 -- the ranges of a cache's sizes
 pub some_set : (c : Config) → IsChecked c → 0 < c.sets
@@ -50,14 +51,14 @@ access_size access h = few_bytes access.size h.sized
 pub ruleset access_bounds = (access_in_line, access_size)
 
 -- only an access that asks for a line to write it writes
-writes_by : (op : AccessOp) (access : Asked) (old value : ℕ) → (finish_by op access old).write ≡ Some value → is_write op ≡ true
+writes_by : (op : AccessOp) (access : Asked) (old value : ℕ) → (finish_by op access old).write ≡ Some value → access_want op ≡ Write
 writes_by Load access old value e = cc
 writes_by Store access old value e = refl
 writes_by Lr access old value e = refl
 writes_by Sc access old value e = refl
 writes_by (Amo op) access old value e = refl
 
-pub writes_only : (access : Asked) (old value : ℕ) → (finish_of access old).write ≡ Some value → is_write access.op ≡ true
+pub writes_only : (access : Asked) (old value : ℕ) → (finish_of access old).write ≡ Some value → access_want access.op ≡ Write
 writes_only access old value e = writes_by access.op access old value e
 
 -- who tells the home of a line is a tile or the control server, and the home is the line's

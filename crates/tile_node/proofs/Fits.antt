@@ -7,6 +7,8 @@ use Rattle.sim_base.specs.declared.lines.LineData.{LineData}
 use Rattle.elf_image.specs.Layout.{Setup}
 use Rattle.rv_exec.specs.Access.{Asked}
 use Rattle.wire_msg.specs.declared.messages.Msg.{Msg}
+use Rattle.wire_msg.specs.declared.lines.Want.{Want}
+use Rattle.wire_msg.specs.declared.lines.Want.TheVariants.{Read, Write}
 use Rattle.wire_msg.specs.declared.messages.Msg.TheVariants.{GetS, GetM, PutM, InvAck, FetchAck, DataS, DataM, Inv, Fetch, FetchInv, Return, Start, Limit, Probe, ProbeReply}
 use Rattle.tile_core.specs.declared.cores.Status.{Status}
 use Rattle.tile_core.specs.declared.cores.Status.TheVariants.{Idle, Run, Miss, Called, Writing, AtBarrier, Probing, Trapped}
@@ -118,15 +120,15 @@ inv_fits w t line (Some way) h = elim (cases_Bool (is_only_read way.hold)) [
   | inr own ↦ rw own h
 ]
 
-fetched_fits : (w : Setup) (t : Tile) (line : ℕ) (write : Bool) → IsOf w t → IsOf w (fetched_tile t line write)
-fetched_fits w t line false h = record { number = h.number; home = h.home; tiles = h.tiles; stream = h.stream; waits = h.waits }
-fetched_fits w t line true h = record { number = h.number; home = h.home; tiles = h.tiles; stream = h.stream; waits = h.waits }
+fetched_fits : (w : Setup) (t : Tile) (line : ℕ) (want : Want) → IsOf w t → IsOf w (fetched_tile t line want)
+fetched_fits w t line Read h = record { number = h.number; home = h.home; tiles = h.tiles; stream = h.stream; waits = h.waits }
+fetched_fits w t line Write h = record { number = h.number; home = h.home; tiles = h.tiles; stream = h.stream; waits = h.waits }
 
-fetch_fits : (w : Setup) (t : Tile) (from line : ℕ) (write : Bool) (found : Option Way) → IsOf w t → IsOf w (fetch_by t from line write found).tile
-fetch_fits w t from line write None h = h
-fetch_fits w t from line write (Some way) h = elim (cases_Bool (is_only_read way.hold)) [
+fetch_fits : (w : Setup) (t : Tile) (from line : ℕ) (want : Want) (found : Option Way) → IsOf w t → IsOf w (fetch_by t from line want found).tile
+fetch_fits w t from line want None h = h
+fetch_fits w t from line want (Some way) h = elim (cases_Bool (is_only_read way.hold)) [
   | inl shared ↦ rw shared h
-  | inr own ↦ rw own (fetched_fits w t line write h)
+  | inr own ↦ rw own (fetched_fits w t line want h)
 ]
 
 return_fits : (w : Setup) (t : Tile) (value time limit : ℕ) (s : Status) → IsOf w t → IsOf w (return_taken w t value time limit s).tile
@@ -170,8 +172,8 @@ taken_fits w t from (FetchAck line content) h = record { number = h.number; home
 taken_fits w t from (DataS line content delay) h = data_fits w t line S content delay t.core.status h
 taken_fits w t from (DataM line content delay) h = data_fits w t line M content delay t.core.status h
 taken_fits w t from (Inv line) h = inv_fits w t line (way_of t.cache line) h
-taken_fits w t from (Fetch line) h = fetch_fits w t from line false (way_of t.cache line) h
-taken_fits w t from (FetchInv line) h = fetch_fits w t from line true (way_of t.cache line) h
+taken_fits w t from (Fetch line) h = fetch_fits w t from line Read (way_of t.cache line) h
+taken_fits w t from (FetchInv line) h = fetch_fits w t from line Write (way_of t.cache line) h
 taken_fits w t from (Return value time limit) h = return_fits w t value time limit t.core.status h
 taken_fits w t from (Start thread entry arg time limit) h = begin_fits w t thread entry arg time limit t.core.status h
 taken_fits w t from (Limit limit) h = limit_fits w t limit t.core.status h

@@ -17,7 +17,8 @@ use Rattle.tile_cache.specs.declared.ways.Way.{Way}
 use Rattle.tile_cache.specs.Cache.{Sets, way_of, hold_of, number_of, is_m, touched, written}
 use Rattle.tile_node.specs.Tile.{Tile, Act, quiet, suits, place_in_line, done_on, with_written}
 use Rattle.tile_node.specs.Step.{accesses, accesses_by}
-use Rattle.tile_node.specs.Inner.{DoesAtOnce, past, after_hit}
+use Rattle.tile_node.specs.AtOnce.{StepsQuietly}
+use Rattle.tile_node.specs.Inner.{past, after_hit}
 
 -- the act of an access that is done at its step on a line of the cache
 abbrev hit_act : Setup → Tile → Asked → Done → Act
@@ -39,7 +40,7 @@ hit_on w t access way there enough = ap (accesses_by w t access) there ∙ hit_b
 -- what such an act makes
 hit_makes : (w : Setup) (t new : Tile) (access : Asked) (done : Done) (op : AccessOp) → accesses w t access ≡ hit_act w t access done
     → op ≡ access.op → new ≡ after_hit w.config (past (record t { cache = with_written (touched t.cache (line_at access.addr)) access done.write }) access done) op
-    → DoesAtOnce true t new (accesses w t access)
+    → StepsQuietly true t new (accesses w t access)
 hit_makes w t new access done op is kind made = rw is (record { tile = rw kind at made; quiet = refl; commits = refl; stays = rw made refl })
 
 -- a load: any hold is enough, and nothing is written
@@ -67,7 +68,7 @@ load_on w t access (Some way) old there kind gave =
 pub load_makes : (w : Setup) (v t : Tile) → v ≡ t → (new : Tile) (access : Asked) (op : AccessOp) (line addr place size old : ℕ) (cache : Sets) (done : Done) (gone : Tile)
     → access.op ≡ Load → op ≡ access.op → line ≡ line_at addr → addr ≡ access.addr → place ≡ place_in_line access.addr → size ≡ access.size
     → Some old ≡ number_of v.cache line place size → cache ≡ touched v.cache line → done ≡ finish_of access old → gone ≡ past (record v { cache = cache }) access done
-    → new ≡ after_hit w.config gone op → DoesAtOnce true t new (accesses w t access)
+    → new ≡ after_hit w.config gone op → StepsQuietly true t new (accesses w t access)
 load_makes w v t is new access op line addr place size old cache done gone kind named_kind lies named here wide gave front finished went made =
     let act : accesses w v access ≡ hit_act w v access done = rw finished (load_on w v access (way_of v.cache (line_at access.addr)) old refl kind (rw (lies, named, here, wide) at gave)) in
     let none : done.write ≡ None = rw finished (load_writes access.op access old kind) in
@@ -108,7 +109,7 @@ pub store_makes : (w : Setup) (v t : Tile) → v ≡ t → (new : Tile) (access 
     (gone : Tile) → access.op ≡ Store → op ≡ access.op → line ≡ line_at addr → addr ≡ access.addr → place ≡ place_in_line access.addr
     → size ≡ access.size → held ≡ is_m (hold_of v.cache line) → held ≡ true
     → cache ≡ (if is_m (hold_of v.cache line) then written (touched v.cache line) line place size value else v.cache) → done ≡ finish_of access 0 → done.write ≡ Some value
-    → gone ≡ past (record v { cache = cache }) access done → new ≡ after_hit w.config gone op → DoesAtOnce true t new (accesses w t access)
+    → gone ≡ past (record v { cache = cache }) access done → new ≡ after_hit w.config gone op → StepsQuietly true t new (accesses w t access)
 store_makes w v t is new access op line addr place size value held cache done gone kind named_kind lies named here wide tells has wrote finished writes went made =
     let in_m : is_m (hold_of v.cache line) ≡ true = sym tells ∙ has in
     let act : accesses w v access ≡ hit_act w v access done = rw finished (store_on w v access (way_of v.cache (line_at access.addr)) refl kind (rw (lies, named) at in_m)) in

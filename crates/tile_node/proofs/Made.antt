@@ -14,7 +14,9 @@ use Rattle.mesh_model.specs.Cost.{cost_of}
 use Rattle.rv_exec.specs.Access.{Asked, finish_of}
 use Rattle.rv_hart.specs.Start.{next_pc, with_answer}
 use Rattle.wire_msg.specs.declared.messages.Msg.{Msg}
-use Rattle.wire_msg.specs.Message.{Up, asks}
+use Rattle.wire_msg.specs.declared.lines.Want.{Want}
+use Rattle.wire_msg.specs.declared.lines.Up.{Up}
+use Rattle.wire_msg.specs.declared.lines.Up.TheVariants.{Asks}
 use Rattle.tile_core.specs.declared.cores.Status.{Status}
 use Rattle.tile_core.specs.declared.cores.Status.TheVariants.{Run, Miss, Called}
 use Rattle.tile_core.specs.Gathering.{Gathering}
@@ -42,10 +44,10 @@ home_makes w v t is from line says config same here slice before after h =
     rw (← is) (by_home w v from line says config v.slice.tile slice before after same (rw (← is) at here) h)
 
 -- a miss
-pub miss_makes : (w : Setup) (v t : Tile) → v ≡ t → (line : ℕ) (write : Bool) (access : Option Asked) (home : ℕ) (msg : Msg) (count : ℕ) (before after : Mail)
-    → home ≡ home_of w.config line → msg ≡ up_message line (asks write) → count ≡ one_more v.misses → after ≡ before ++ (home, msg) ∷ []
-    → Makes (Ok None) t (record (with_status v (Miss access)) { misses = count }) before after (misses w t line write access)
-miss_makes w v t is line write access home msg count before after there said counted sent = rw (← is, sent, counted, said, there) (refl, refl, refl)
+pub miss_makes : (w : Setup) (v t : Tile) → v ≡ t → (line : ℕ) (want : Want) (access : Option Asked) (home : ℕ) (msg : Msg) (count : ℕ) (before after : Mail)
+    → home ≡ home_of w.config line → msg ≡ up_message line (Asks want) → count ≡ one_more v.misses → after ≡ before ++ (home, msg) ∷ []
+    → Makes (Ok None) t (record (with_status v (Miss access)) { misses = count }) before after (misses w t line want access)
+miss_makes w v t is line want access home msg count before after there said counted sent = rw (← is, sent, counted, said, there) (refl, refl, refl)
 
 -- an answer to a call
 pub return_makes : (w : Setup) (v t : Tile) → v ≡ t → (value time limit clock : ℕ) (regs : List ℕ) → v.core.status ≡ Called

@@ -9,7 +9,10 @@ use Rattle.rv_exec.specs.Access.{Asked}
 use Rattle.elf_image.specs.Layout.{Setup}
 use Rattle.wire_msg.specs.declared.messages.Msg.{Msg}
 use Rattle.wire_msg.specs.declared.messages.Msg.TheVariants.{DataS, DataM, Inv, Fetch, FetchInv, Return, Start, Limit, ProbeReply}
-use Rattle.wire_msg.specs.Message.{may_send, gives_up, acknowledges, answers}
+use Rattle.wire_msg.specs.declared.lines.Want.{Want}
+use Rattle.wire_msg.specs.declared.lines.Want.TheVariants.{Read, Write}
+use Rattle.wire_msg.specs.declared.lines.Up.TheVariants.{GivesUp, Acknowledges, HandsOver}
+use Rattle.wire_msg.specs.Message.{may_send}
 use Rattle.tile_core.specs.declared.cores.Status.{Status}
 use Rattle.tile_core.specs.declared.cores.Status.TheVariants.{Idle, Miss, Called, AtBarrier, Probing}
 use Rattle.tile_core.specs.Core.{line_missed}
@@ -22,7 +25,8 @@ use Rattle.tile_cache.proofs.CopyLemmas.{front_shows, drop_shows, downgrade_show
 use Rattle.clock_policy.specs.Probe.{may_go}
 use Rattle.tile_node.specs.Tile.{Tile, Act, quiet, is_only_read}
 use Rattle.tile_node.specs.Deliver.{put_home, victim_tile, victim_told, waiting_done, hold_suits, miss_ends_for, data_taken, inv_tile, told_to, fetched_tile, fetch_by, return_taken, start_taken, limit_taken, reply_taken, onward, taken}
-use Rattle.tile_node.specs.OneLine.{wants, wants_by, told_about, data_after, dropped_copy, fetched_copy, put_of, answer_of, nothing, came, evicted, invalidated, fetched, at_line, leaves_at, data_at, taken_at, Shows, DeliverShows}
+use Rattle.tile_node.specs.OneLine.{wants, wants_by, told_about, data_after, dropped_copy, fetched_copy, put_of, answer_of, nothing, came, evicted, invalidated, fetched, at_line, leaves_at, data_at, taken_at}
+use Rattle.tile_node.specs.OneLineLaws.{Shows, DeliverShows}
 use Rattle.tile_node.proofs.OneLineParts.{at_itself, elsewhere, test_turned, shows_if, shows_both, shows_else, leaves_lines, told_here, told_there, used, used_here, used_there}
 use Rattle.tile_node.proofs.OneLineCaches.{room_of, room_is, room_there, IsCache-room, IsCache-placed}
 
@@ -87,7 +91,7 @@ module _ (w : Setup) (t : Tile) (access : Option Asked) (line : ℕ) (hold : Hol
   -- what is told of the victim
   told_put : (victim k : ℕ) → (k == victim) ≡ false → (content : Option LineData) → told_about k (put_home w victim content) ≡ []
   told_put victim k ne None = refl
-  told_put victim k ne (Some old) = told_there (home_of w.config victim) victim k (gives_up old) ne
+  told_put victim k ne (Some old) = told_there (home_of w.config victim) victim k (GivesUp old) ne
 
   told_other : (victim : ℕ) (by : Hold) (k : ℕ) → (k == victim) ≡ false → told_about k (victim_told w t (Some (victim, by))) ≡ []
   told_other victim S k ne = refl
@@ -98,7 +102,7 @@ module _ (w : Setup) (t : Tile) (access : Option Asked) (line : ℕ) (hold : Hol
   told_victim victim S old e = sym (ap put_of e)
   told_victim victim M old e =
       ap (λ o. told_about victim (put_home w victim o)) (modified_content (way_of t.cache victim) old e)
-      ∙ told_here (home_of w.config victim) victim (gives_up old) ∙ sym (ap put_of e)
+      ∙ told_here (home_of w.config victim) victim (GivesUp old) ∙ sym (ap put_of e)
 
   -- at the other lines
   other_shows : (victim : Option (ℕ × Hold)) (k : ℕ) → victim_of t.cache line ≡ victim → (k == line) ≡ false
@@ -159,61 +163,63 @@ dropped_wants t line k S = refl
 dropped_wants t line k M = refl
 
 abbrev inv_by : Tile → ℕ → ℕ → Option Way → Act
-inv_by t from line found = record (quiet (inv_tile t line found)) { told = told_to from line acknowledges }
+inv_by t from line found = record (quiet (inv_tile t line found)) { told = told_to from line Acknowledges }
 
 inv_shows : (t : Tile) (from line : ℕ) (found : Option Way) (k : ℕ) → IsCache t.cache → way_of t.cache line ≡ found
     → Shows t k (inv_by t from line found) (at_line line k invalidated)
 inv_shows t from line None k h e =
     let none : copy_of t.cache line ≡ absent = ap copy_in e in
-    shows_else t line k _ invalidated nothing (record { copy = none ∙ sym (ap dropped_copy none); told = told_here from line acknowledges; wants = refl })
-    (λ ne. leaves_lines t k _ refl (told_there from line k acknowledges ne) refl)
+    shows_else t line k _ invalidated nothing (record { copy = none ∙ sym (ap dropped_copy none); told = told_here from line Acknowledges; wants = refl })
+    (λ ne. leaves_lines t k _ refl (told_there from line k Acknowledges ne) refl)
 inv_shows t from line (Some way) k h e =
     shows_else t line k _ invalidated nothing
     (record {
       copy = dropped_here t line way.hold way.content h (ap copy_in e);
-      told = told_here from line acknowledges;
+      told = told_here from line Acknowledges;
       wants = dropped_wants t line line way.hold;
     })
-    (λ ne. leaves_lines t k _ (dropped_there t line k way.hold h ne) (told_there from line k acknowledges ne) (dropped_wants t line k way.hold))
+    (λ ne. leaves_lines t k _ (dropped_there t line k way.hold h ne) (told_there from line k Acknowledges ne) (dropped_wants t line k way.hold))
 
 -- a line is fetched
-fetched_here : (t : Tile) (line : ℕ) (write : Bool) (content : LineData) → IsCache t.cache → copy_of t.cache line ≡ modified content
-    → copy_of (fetched_tile t line write).cache line ≡ fetched_copy write (copy_of t.cache line)
-fetched_here t line false content h e = downgrade_shows t.cache line line h.some_set ∙ at_itself line _ _ ∙ ap as_shared e ∙ sym (ap (fetched_copy false) e)
-fetched_here t line true content h e = drop_shows t.cache line line h.some_set ∙ at_itself line _ _ ∙ sym (ap (fetched_copy true) e)
+fetched_here : (t : Tile) (line : ℕ) (want : Want) (content : LineData) → IsCache t.cache → copy_of t.cache line ≡ modified content
+    → copy_of (fetched_tile t line want).cache line ≡ fetched_copy want (copy_of t.cache line)
+fetched_here t line Read content h e = downgrade_shows t.cache line line h.some_set ∙ at_itself line _ _ ∙ ap as_shared e ∙ sym (ap (fetched_copy Read) e)
+fetched_here t line Write content h e = drop_shows t.cache line line h.some_set ∙ at_itself line _ _ ∙ sym (ap (fetched_copy Write) e)
 
-fetched_there : (t : Tile) (line k : ℕ) (write : Bool) → IsCache t.cache → (k == line) ≡ false → copy_of (fetched_tile t line write).cache k ≡ copy_of t.cache k
-fetched_there t line k false h ne = downgrade_shows t.cache line k h.some_set ∙ elsewhere k line _ _ ne
-fetched_there t line k true h ne = drop_shows t.cache line k h.some_set ∙ elsewhere k line _ _ ne
+fetched_there : (t : Tile) (line k : ℕ) (want : Want) → IsCache t.cache → (k == line) ≡ false → copy_of (fetched_tile t line want).cache k ≡ copy_of t.cache k
+fetched_there t line k Read h ne = downgrade_shows t.cache line k h.some_set ∙ elsewhere k line _ _ ne
+fetched_there t line k Write h ne = drop_shows t.cache line k h.some_set ∙ elsewhere k line _ _ ne
 
-fetched_wants : (t : Tile) (line k : ℕ) (write : Bool) → wants (fetched_tile t line write) k ≡ wants t k
-fetched_wants t line k false = refl
-fetched_wants t line k true = refl
+fetched_wants : (t : Tile) (line k : ℕ) (want : Want) → wants (fetched_tile t line want) k ≡ wants t k
+fetched_wants t line k Read = refl
+fetched_wants t line k Write = refl
 
 -- a line that isn't held to write answers nothing
-stays_shows : (t : Tile) (line k : ℕ) (write : Bool) (copy : Copy) → copy_of t.cache line ≡ copy → fetched_copy write copy ≡ copy → answer_of copy ≡ []
-    → Shows t k (quiet t) (at_line line k (fetched write))
-stays_shows t line k write copy is same silent =
-    shows_else t line k _ (fetched write) nothing
-    (record { copy = is ∙ sym same ∙ sym (ap (fetched_copy write) is); told = sym silent ∙ sym (ap answer_of is); wants = refl })
+stays_shows : (t : Tile) (line k : ℕ) (want : Want) (copy : Copy) → copy_of t.cache line ≡ copy → fetched_copy want copy ≡ copy → answer_of copy ≡ []
+    → Shows t k (quiet t) (at_line line k (fetched want))
+stays_shows t line k want copy is same silent =
+    shows_else t line k _ (fetched want) nothing
+    (record { copy = is ∙ sym same ∙ sym (ap (fetched_copy want) is); told = sym silent ∙ sym (ap answer_of is); wants = refl })
     (λ ne. leaves_lines t k _ refl refl refl)
 
-fetch_held : (t : Tile) (from line : ℕ) (write : Bool) (hold : Hold) (content : LineData) (k : ℕ) → IsCache t.cache → copy_of t.cache line ≡ held_as hold content
-    → Shows t k (if is_only_read hold then quiet t else record (quiet (fetched_tile t line write)) { told = told_to from line (answers content) }) (at_line line k (fetched write))
-fetch_held t from line write S content k h e = stays_shows t line k write (shared content) e refl refl
-fetch_held t from line write M content k h e =
-    shows_else t line k _ (fetched write) nothing
+fetch_held : (t : Tile) (from line : ℕ) (want : Want) (hold : Hold) (content : LineData) (k : ℕ) → IsCache t.cache → copy_of t.cache line ≡ held_as hold content
+    → Shows t k (if is_only_read hold then quiet t else record (quiet (fetched_tile t line want)) { told = told_to from line (HandsOver content) }) (at_line line k (fetched want))
+fetch_held t from line Read S content k h e = stays_shows t line k Read (shared content) e refl refl
+fetch_held t from line Write S content k h e = stays_shows t line k Write (shared content) e refl refl
+fetch_held t from line want M content k h e =
+    shows_else t line k _ (fetched want) nothing
     (record {
-      copy = fetched_here t line write content h e;
-      told = told_here from line (answers content) ∙ sym (ap answer_of e);
-      wants = fetched_wants t line line write;
+      copy = fetched_here t line want content h e;
+      told = told_here from line (HandsOver content) ∙ sym (ap answer_of e);
+      wants = fetched_wants t line line want;
     })
-    (λ ne. leaves_lines t k _ (fetched_there t line k write h ne) (told_there from line k (answers content) ne) (fetched_wants t line k write))
+    (λ ne. leaves_lines t k _ (fetched_there t line k want h ne) (told_there from line k (HandsOver content) ne) (fetched_wants t line k want))
 
-fetch_shows : (t : Tile) (from line : ℕ) (write : Bool) (found : Option Way) (k : ℕ) → IsCache t.cache → way_of t.cache line ≡ found
-    → Shows t k (fetch_by t from line write found) (at_line line k (fetched write))
-fetch_shows t from line write None k h e = stays_shows t line k write absent (ap copy_in e) refl refl
-fetch_shows t from line write (Some way) k h e = fetch_held t from line write way.hold way.content k h (ap copy_in e)
+fetch_shows : (t : Tile) (from line : ℕ) (want : Want) (found : Option Way) (k : ℕ) → IsCache t.cache → way_of t.cache line ≡ found
+    → Shows t k (fetch_by t from line want found) (at_line line k (fetched want))
+fetch_shows t from line Read None k h e = stays_shows t line k Read absent (ap copy_in e) refl refl
+fetch_shows t from line Write None k h e = stays_shows t line k Write absent (ap copy_in e) refl refl
+fetch_shows t from line want (Some way) k h e = fetch_held t from line want way.hold way.content k h (ap copy_in e)
 
 -- messages to the thread
 return_shows : (w : Setup) (t : Tile) (value time limit : ℕ) (status : Status) (k : ℕ) → t.core.status ≡ status
@@ -247,8 +253,8 @@ taken_shows : (w : Setup) (t : Tile) (from : ℕ) (msg : Msg) (k : ℕ) → IsCa
 taken_shows w t from (DataS line content delay) k h = data_shows w t line S content delay t.core.status k h refl
 taken_shows w t from (DataM line content delay) k h = data_shows w t line M content delay t.core.status k h refl
 taken_shows w t from (Inv line) k h = inv_shows t from line (way_of t.cache line) k h refl
-taken_shows w t from (Fetch line) k h = fetch_shows t from line false (way_of t.cache line) k h refl
-taken_shows w t from (FetchInv line) k h = fetch_shows t from line true (way_of t.cache line) k h refl
+taken_shows w t from (Fetch line) k h = fetch_shows t from line Read (way_of t.cache line) k h refl
+taken_shows w t from (FetchInv line) k h = fetch_shows t from line Write (way_of t.cache line) k h refl
 taken_shows w t from (Return value time limit) k h = return_shows w t value time limit t.core.status k refl
 taken_shows w t from (Start thread entry arg time limit) k h = start_shows w t thread entry arg time limit t.core.status k refl
 taken_shows w t from (Limit limit) k h = limit_shows t limit t.core.status k refl

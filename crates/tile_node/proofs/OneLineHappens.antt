@@ -11,6 +11,8 @@ use Rattle.rv_exec.specs.Access.{Asked, finish_by}
 use Rattle.elf_image.specs.Layout.{Setup}
 use Rattle.wire_msg.specs.declared.messages.Msg.{Msg}
 use Rattle.wire_msg.specs.declared.messages.Msg.TheVariants.{DataS, DataM, Inv, Fetch, FetchInv}
+use Rattle.wire_msg.specs.declared.lines.Want.{Want}
+use Rattle.wire_msg.specs.declared.lines.Want.TheVariants.{Read}
 use Rattle.wire_msg.specs.Message.{may_send}
 use Rattle.tile_core.specs.declared.cores.Status.{Status}
 use Rattle.tile_core.specs.declared.cores.Status.TheVariants.{Miss}
@@ -25,14 +27,15 @@ use Rattle.tile_cache.specs.declared.ways.Way.{Way}
 use Rattle.tile_cache.specs.Cache.{IsCache, way_of, victim_of}
 use Rattle.tile_cache.specs.Copy.{Copy, absent, held_as, copy_in, copy_of}
 use Rattle.tile_cache.proofs.CopyLemmas.{victim_is_another, victim_is_held}
-use Rattle.tile_node.specs.Tile.{Tile, suits, is_write, place_in_line}
+use Rattle.tile_node.specs.Tile.{Tile, suits, access_want, place_in_line}
 use Rattle.tile_node.specs.Step.{can_step, is_writing, waits_for_limit, looks_around}
 use Rattle.tile_node.specs.Deliver.{hold_suits}
-use Rattle.tile_node.specs.OneLine.{wants, wants_by, wants_write, data_written, data_after, Happening, nothing, hit, asked, came, evicted, at_line, needs, needs_at, follows_at, works_at, leaves_at, data_at, taken_at, MayCome, MayHappen, StepMayHappen, DeliverMayHappen, WantsOne}
+use Rattle.tile_node.specs.OneLine.{wants, wants_by, want_for, data_written, data_after, Happening, nothing, hit, asked, came, evicted, at_line, needs, needs_at, follows_at, works_at, leaves_at, data_at, taken_at}
+use Rattle.tile_node.specs.OneLineLaws.{MayCome, MayHappen, StepMayHappen, DeliverMayHappen, WantsOne}
 use Rattle.tile_node.proofs.OneLineParts.{at_itself, waits_for_nothing}
 use Rattle.tile_node.proofs.OneLineDeliver.{wants_other}
 
-may_if : (b : Bool) (h g : Happening) (copy : Copy) (want : Option Bool) → (b ≡ true → MayHappen h copy want) → (b ≡ false → MayHappen g copy want)
+may_if : (b : Bool) (h g : Happening) (copy : Copy) (want : Option Want) → (b ≡ true → MayHappen h copy want) → (b ≡ false → MayHappen g copy want)
     → MayHappen (if b then h else g) copy want
 may_if true h g copy want one other = one refl
 may_if false h g copy want one other = other refl
@@ -61,7 +64,7 @@ load_keeps access content e =
 
 -- an access on a copy that is there
 access_may : (access : Asked) (op : AccessOp) (hold : Hold) (content : LineData) → access.op ≡ op
-    → MayHappen (if suits op hold then hit (data_after (Some access)) else asked (is_write op)) (held_as hold content) None
+    → MayHappen (if suits op hold then hit (data_after (Some access)) else asked (access_want op)) (held_as hold content) None
 access_may access Load S content e = (load_keeps access content e, refl)
 access_may access Load M content e = (tt, refl)
 access_may access Store S content e = (refl, refl)
@@ -74,7 +77,7 @@ access_may access (Amo op) S content e = (refl, refl)
 access_may access (Amo op) M content e = (tt, refl)
 
 held_may : (access : Option Asked) (hold : Hold) (content : LineData)
-    → MayHappen (if hold_suits access hold then hit (data_after access) else asked (wants_write access)) (held_as hold content) None
+    → MayHappen (if hold_suits access hold then hit (data_after access) else asked (want_for access)) (held_as hold content) None
 held_may None S content = (refl, refl)
 held_may None M content = (tt, refl)
 held_may (Some access) hold content = access_may access access.op hold content refl
@@ -105,20 +108,20 @@ step_may w t k can =
     (λ _. may_if (looks_around w.config.policy w.config.tiles t.core.clock t.core.next_check) _ _ _ _ (λ _. tt) (λ _. works_may w t k can))
 
 -- a line comes to read only where it is read alone
-read_alone : (op : AccessOp) → suits op S ≡ true → is_write op ≡ false
+read_alone : (op : AccessOp) → suits op S ≡ true → access_want op ≡ Read
 read_alone Load e = refl
 read_alone Store e = cc
 read_alone Lr e = cc
 read_alone Sc e = cc
 read_alone (Amo op) e = cc
 
-reads_alone : (access : Option Asked) → hold_suits access S ≡ true → wants_write access ≡ false
+reads_alone : (access : Option Asked) → hold_suits access S ≡ true → want_for access ≡ Read
 reads_alone None e = refl
 reads_alone (Some access) e = read_alone access.op e
 
-came_may : (access : Option Asked) (hold : Hold) (want : Option Bool) → want ≡ Some (wants_write access) → hold_suits access hold ≡ true → MayCome hold want
+came_may : (access : Option Asked) (hold : Hold) (want : Option Want) → want ≡ Some (want_for access) → hold_suits access hold ≡ true → MayCome hold want
 came_may access S want e fits = e ∙ ap Some (reads_alone access fits)
-came_may access M want e fits = λ none. none-some (wants_write access) (sym none ∙ e)
+came_may access M want e fits = λ none. none-some (want_for access) (sym none ∙ e)
 
 held_there : (hold : Hold) (content : LineData) → held_as hold content ≢ absent
 held_there S content = λ e. cc
@@ -141,7 +144,7 @@ data_may t line hold content (Miss access) k h is =
     let parts = and_parts (line_missed t.core.write access == line) (hold_suits access hold) fits in
     let at : line_missed t.core.write access ≡ line = eqb-true (line_missed t.core.write access) line parts.0 in
     may_else t line k (came hold (data_after access content)) (leaves_at (victim_of t.cache line) k)
-    (came_may access hold (wants t line) (ap (wants_by t.core.write line) is ∙ ap (λ n. if n == line then Some (wants_write access) else None) at ∙ at_itself line _ _) parts.1)
+    (came_may access hold (wants t line) (ap (wants_by t.core.write line) is ∙ ap (λ n. if n == line then Some (want_for access) else None) at ∙ at_itself line _ _) parts.1)
     (λ ne. victim_may t access line (victim_of t.cache line) k h is at refl ne))
     (λ _. tt)
 data_may t line hold content _ k h is = tt

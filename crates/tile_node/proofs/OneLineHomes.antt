@@ -9,10 +9,12 @@ use Rattle.sim_base.specs.declared.settings.Config.{Config}
 use Rattle.elf_image.specs.Layout.{Setup}
 use Rattle.wire_msg.specs.declared.messages.Msg.{Msg}
 use Rattle.wire_msg.specs.declared.messages.Msg.TheVariants.{GetS, GetM, PutM, InvAck, FetchAck}
-use Rattle.wire_msg.specs.Message.{Up, asks, gives_up, acknowledges, answers, may_send, line_of, up_of}
-use Rattle.dir_slice.specs.Line.{Home, Request, Row, Sent, drop_copy, fetch, give, is_busy, awaited, request_row, ack_row, fetch_row, put_row}
-use Rattle.mesh_model.specs.Cost.{delay_of}
-use Rattle.dir_slice.specs.Directory.{Slice, farthest, Step, message, in_row, taken_up, settled, settle, reaction, home_at, mail_of}
+use Rattle.wire_msg.specs.declared.lines.Want.TheVariants.{Read, Write}
+use Rattle.wire_msg.specs.declared.lines.Up.{Up}
+use Rattle.wire_msg.specs.declared.lines.Up.TheVariants.{Asks, GivesUp, Acknowledges, HandsOver}
+use Rattle.wire_msg.specs.Message.{may_send, line_of, up_of}
+use Rattle.dir_slice.specs.Line.{Home, Request, Row, Sent, drop_copy, fetch, give, is_busy, request_row, answer_row, memory_after}
+use Rattle.dir_slice.specs.Directory.{Slice, fixed_delay, Step, message, in_row, taken_up, settled, settle, after_row, reaction, home_at, mail_of}
 use Rattle.tile_cache.specs.Cache.{IsCache}
 use Rattle.tile_cache.proofs.ChangeLemmas.{empty_is_cache}
 use Rattle.tile_cache.proofs.CopyLemmas.{empty_shows}
@@ -20,7 +22,8 @@ use Rattle.tile_core.specs.declared.cores.TileCore.{TileCore}
 use Rattle.tile_core.specs.Core.{idle_core, begun}
 use Rattle.tile_node.specs.Tile.{Tile, Act, quiet}
 use Rattle.tile_node.specs.Deliver.{home_does, taken, tile_delivered}
-use Rattle.tile_node.specs.OneLine.{wants_by, DeliverStaysTile, ToldToReceivers, HomesHear, HomesSpeakOfLines, TilesStartEmpty}
+use Rattle.tile_node.specs.OneLine.{wants_by}
+use Rattle.tile_node.specs.OneLineLaws.{DeliverStaysTile, ToldToReceivers, HomesHear, HomesSpeakOfLines, TilesStartEmpty}
 use Rattle.tile_node.proofs.OneLinePlain.{ToldRightly, IsElse, deliver_plain}
 
 -- a home hears a message that a node may send it
@@ -30,11 +33,11 @@ heard w t from line msg one says n may at is =
     cond-true (may_send w.config from t.number msg) _ _ may ∙ ap (λ m. home_does w t from m one) (same_Some n line at) ∙ ap (home_does w t from line) (same_Some one says is)
 
 pub homes_hear : HomesHear
-homes_hear w t from (GetS n) line says may at is = heard w t from line (GetS n) (asks false) says n may at is
-homes_hear w t from (GetM n) line says may at is = heard w t from line (GetM n) (asks true) says n may at is
-homes_hear w t from (PutM n content) line says may at is = heard w t from line (PutM n content) (gives_up content) says n may at is
-homes_hear w t from (InvAck n) line says may at is = heard w t from line (InvAck n) acknowledges says n may at is
-homes_hear w t from (FetchAck n content) line says may at is = heard w t from line (FetchAck n content) (answers content) says n may at is
+homes_hear w t from (GetS n) line says may at is = heard w t from line (GetS n) (Asks Read) says n may at is
+homes_hear w t from (GetM n) line says may at is = heard w t from line (GetM n) (Asks Write) says n may at is
+homes_hear w t from (PutM n content) line says may at is = heard w t from line (PutM n content) (GivesUp content) says n may at is
+homes_hear w t from (InvAck n) line says may at is = heard w t from line (InvAck n) Acknowledges says n may at is
+homes_hear w t from (FetchAck n content) line says may at is = heard w t from line (FetchAck n content) (HandsOver content) says n may at is
 homes_hear w t from _ line says may at is = absurd (none-some says is)
 
 -- what a home sends goes down, and is about the line
@@ -43,10 +46,10 @@ GoesDown line m = (up_of m.1 ≡ None) × (line_of m.1 ≡ Some line)
 
 message_down : (line : ℕ) (h : Home) (sent : Sent) → GoesDown line (message line h sent)
 message_down line h (drop_copy to) = (refl, refl)
-message_down line h (fetch false to) = (refl, refl)
-message_down line h (fetch true to) = (refl, refl)
-message_down line h (give false to) = (refl, refl)
-message_down line h (give true to) = (refl, refl)
+message_down line h (fetch Read to) = (refl, refl)
+message_down line h (fetch Write to) = (refl, refl)
+message_down line h (give Read to) = (refl, refl)
+message_down line h (give Write to) = (refl, refl)
 
 messages_down : (line : ℕ) (h : Home) (sent : List Sent) → All (GoesDown line) (map (message line h) sent)
 messages_down line h [] = All-nil (GoesDown line)
@@ -61,8 +64,7 @@ in_row_down line h row = messages_down line h row.sent
 
 taken_down : (c : Config) (tile line : ℕ) (h : Home) (q : Request) → All (GoesDown line) (taken_up c tile line h q).mail
 taken_down c tile line h q =
-    let row : Row = request_row h.state q.write q.from in
-    in_row_down line (record h { delay = delay_of c q.from tile (farthest c tile (awaited row.state)) }) row
+    let row : Row = request_row h.state q.want q.from in in_row_down line (record h { delay = fixed_delay c tile q.from row.state }) row
 
 settled_down : (c : Config) (tile line : ℕ) (h : Home) (rest : List Request) → All (GoesDown line) (settled c tile line h rest).mail
 settled_down c tile line h [] = All-nil (GoesDown line)
@@ -74,20 +76,16 @@ settled_down c tile line h (q ∷ rest) =
 settle_down : (c : Config) (tile line : ℕ) (s : Step) → All (GoesDown line) s.mail → All (GoesDown line) (settle c tile line s).mail
 settle_down c tile line s down = All-append (GoesDown line) s.mail (settled c tile line s.home s.home.waiting).mail down (settled_down c tile line s.home s.home.waiting)
 
--- what a home makes of an answer that the table has a row for
-abbrev with_row : Config → ℕ → ℕ → Home → Option Row → Option Step
-with_row c tile line h row = option_map (λ row. settle c tile line (in_row line h row)) row
-
-acked_down : (c : Config) (tile line : ℕ) (h : Home) (row : Option Row) → All (GoesDown line) (mail_of (with_row c tile line h row))
-acked_down c tile line h None = All-nil (GoesDown line)
-acked_down c tile line h (Some row) = settle_down c tile line (in_row line h row) (messages_down line h row.sent)
+answered_down : (c : Config) (tile line : ℕ) (h : Home) (says : Up) (row : Option Row) → All (GoesDown line) (mail_of (option_map (after_row c tile line h says) row))
+answered_down c tile line h says None = All-nil (GoesDown line)
+answered_down c tile line h says (Some row) =
+    settle_down c tile line (in_row line (record h { memory = memory_after says h.memory }) row) (messages_down line (record h { memory = memory_after says h.memory }) row.sent)
 
 reaction_down : (c : Config) (tile line : ℕ) (h : Home) (from : ℕ) (says : Up) → All (GoesDown line) (mail_of (reaction c tile line h from says))
-reaction_down c tile line h from (asks write) =
-    settle_down c tile line (record { home = record h { waiting = h.waiting ++ record { from = from; write = write } ∷ [] }; mail = [] }) (All-nil (GoesDown line))
-reaction_down c tile line h from acknowledges = acked_down c tile line h (ack_row h.state from)
-reaction_down c tile line h from (answers content) = acked_down c tile line (record h { memory = content }) (fetch_row h.state from)
-reaction_down c tile line h from (gives_up content) = acked_down c tile line (record h { memory = content }) (put_row h.state from)
+reaction_down c tile line h from (Asks want) = either_down line (is_busy h.state) _ _ (All-nil (GoesDown line)) (taken_down c tile line h (record { from = from; want = want }))
+reaction_down c tile line h from Acknowledges = answered_down c tile line h Acknowledges (answer_row h.state from Acknowledges)
+reaction_down c tile line h from (HandsOver content) = answered_down c tile line h (HandsOver content) (answer_row h.state from (HandsOver content))
+reaction_down c tile line h from (GivesUp content) = answered_down c tile line h (GivesUp content) (answer_row h.state from (GivesUp content))
 
 pub homes_say : HomesSpeakOfLines
 homes_say w t from line says = reaction_down w.config t.number line (home_at t.slice.homes line) from says
@@ -130,11 +128,11 @@ plain_kept w t from msg e =
     }
 
 kept : (w : Setup) (t : Tile) (from : ℕ) (msg : Msg) → Kept w t from msg (tile_delivered w t from msg)
-kept w t from (GetS n) = heard_kept w t from (GetS n) n (asks false) (may_send w.config from t.number (GetS n))
-kept w t from (GetM n) = heard_kept w t from (GetM n) n (asks true) (may_send w.config from t.number (GetM n))
-kept w t from (PutM n content) = heard_kept w t from (PutM n content) n (gives_up content) (may_send w.config from t.number (PutM n content))
-kept w t from (InvAck n) = heard_kept w t from (InvAck n) n acknowledges (may_send w.config from t.number (InvAck n))
-kept w t from (FetchAck n content) = heard_kept w t from (FetchAck n content) n (answers content) (may_send w.config from t.number (FetchAck n content))
+kept w t from (GetS n) = heard_kept w t from (GetS n) n (Asks Read) (may_send w.config from t.number (GetS n))
+kept w t from (GetM n) = heard_kept w t from (GetM n) n (Asks Write) (may_send w.config from t.number (GetM n))
+kept w t from (PutM n content) = heard_kept w t from (PutM n content) n (GivesUp content) (may_send w.config from t.number (PutM n content))
+kept w t from (InvAck n) = heard_kept w t from (InvAck n) n Acknowledges (may_send w.config from t.number (InvAck n))
+kept w t from (FetchAck n content) = heard_kept w t from (FetchAck n content) n (HandsOver content) (may_send w.config from t.number (FetchAck n content))
 kept w t from msg = plain_kept w t from msg refl
 
 pub deliver_keeps_number : (w : Setup) (t : Tile) (from : ℕ) (msg : Msg) → (tile_delivered w t from msg).tile.number ≡ t.number

@@ -4,7 +4,7 @@ use Rattle.std.proofs.lemmas.Bool.{cases_Bool, eqb-true, eq-eqb, cond-true, cond
 use Rattle.std.specs.Prelude.{Option, ◌==◌, if◌then◌else◌}
 use Rattle.sim_base.specs.declared.lines.LineData.{LineData}
 use Rattle.rv_exec.specs.Access.{Asked}
-use Rattle.wire_msg.specs.Message.{Up}
+use Rattle.wire_msg.specs.declared.lines.Up.{Up}
 use Rattle.tile_core.specs.declared.cores.Status.{Status}
 use Rattle.tile_core.specs.declared.cores.Status.TheVariants.{Run, Writing}
 use Rattle.tile_core.specs.Gathering.{Gathering}
@@ -16,7 +16,8 @@ use Rattle.tile_cache.specs.Copy.{Copy, absent, shared, modified, held_as, copy_
 use Rattle.tile_cache.proofs.CopyLemmas.{write_shows}
 use Rattle.tile_node.specs.Tile.{Tile, Act, place_in_line, done_on, with_written}
 use Rattle.tile_node.specs.Step.{steps_in}
-use Rattle.tile_node.specs.OneLine.{wants, wants_by, told_about, data_written, data_after, Happening, nothing, at_line, Shows}
+use Rattle.tile_node.specs.OneLine.{wants, wants_by, told_about, data_written, data_after, Happening, nothing, at_line}
+use Rattle.tile_node.specs.OneLineLaws.{Shows}
 
 -- a test of a line with itself, and with another
 pub at_itself : {A : Type 0} (line : ℕ) (x y : A) → (if line == line then x else y) ≡ x

@@ -9,7 +9,11 @@ use Rattle.rv_exec.specs.Access.{Asked}
 use Rattle.elf_image.specs.Layout.{Setup}
 use Rattle.wire_msg.specs.declared.messages.Msg.{Msg}
 use Rattle.wire_msg.specs.declared.messages.Msg.TheVariants.{GetS, GetM, PutM, InvAck, FetchAck, DataS, DataM, Inv, Fetch, FetchInv, Return, Start, Limit, Probe, ProbeReply}
-use Rattle.wire_msg.specs.Message.{Up, Down, drops, fetches, down_about, may_send, line_of, up_of, gives_up, acknowledges, answers}
+use Rattle.wire_msg.specs.declared.lines.Want.{Want}
+use Rattle.wire_msg.specs.declared.lines.Want.TheVariants.{Read, Write}
+use Rattle.wire_msg.specs.declared.lines.Up.{Up}
+use Rattle.wire_msg.specs.declared.lines.Up.TheVariants.{GivesUp, Acknowledges, HandsOver}
+use Rattle.wire_msg.specs.Message.{Down, drops, fetches, down_about, may_send, line_of, up_of}
 use Rattle.tile_core.specs.declared.cores.Status.{Status}
 use Rattle.tile_core.specs.declared.cores.Status.TheVariants.{Idle, Miss, Called, AtBarrier, Probing}
 use Rattle.tile_core.specs.declared.plans.Plan.{Plan}
@@ -26,7 +30,7 @@ use Rattle.dir_slice.specs.Directory.{Slice}
 use Rattle.tile_node.specs.Tile.{Tile, Act, Told, quiet, to_home, suits, is_only_read}
 use Rattle.tile_node.specs.Step.{is_writing, waits_for_limit, looks_around, misses, reads_byte_by, writes, accesses_by, follows, tile_step}
 use Rattle.tile_node.specs.Deliver.{put_home, victim_tile, victim_told, waiting_done, hold_suits, miss_ends, data_taken, inv_tile, told_to, fetched_tile, fetch_by, return_taken, start_taken, limit_taken, reply_taken, taken, tile_delivered}
-use Rattle.tile_node.specs.OneLine.{IsToldTo, StepStaysTile, ToldToHomes, StepLeavesHomes, DeliverLeavesHomes}
+use Rattle.tile_node.specs.OneLineLaws.{IsToldTo, StepStaysTile, ToldToHomes, StepLeavesHomes, DeliverLeavesHomes}
 use Rattle.tile_node.proofs.OneLineParts.{at_itself}
 use Rattle.tile_node.proofs.OneLineCaches.{room_of, room_is, room_there, IsCache-touched, IsCache-without, IsCache-downgraded, IsCache-used, IsCache-placed, IsCache-room}
 use Rattle.tile_node.proofs.OneLineDeliver.{ended_cache}
@@ -78,8 +82,8 @@ sends P t act node msg cache told place mail e = record {
 abbrev pub AtHome : Setup → Told → Type 0
 AtHome w told = told.to ≡ home_of w.config told.line
 
-misses_plain : (w : Setup) (t : Tile) (line : ℕ) (write : Bool) (access : Option Asked) → Plain (AtHome w) t (misses w t line write access)
-misses_plain w t line write access = record {
+misses_plain : (w : Setup) (t : Tile) (line : ℕ) (want : Want) (access : Option Asked) → Plain (AtHome w) t (misses w t line want access)
+misses_plain w t line want access = record {
   cache = λ h. h;
   told = All-cons (AtHome w) _ [] refl (All-nil (AtHome w));
   place = refl;
@@ -87,7 +91,7 @@ misses_plain w t line write access = record {
 }
 
 byte_plain : (w : Setup) (t : Tile) (found : Option Way) → Plain (AtHome w) t (reads_byte_by w t (next_byte t.core.write) found)
-byte_plain w t None = misses_plain w t _ false None
+byte_plain w t None = misses_plain w t _ Read None
 byte_plain w t (Some way) = still (AtHome w) t _ (λ h. IsCache-touched t.cache (line_at (next_byte t.core.write)) h) refl refl refl
 
 writes_plain : (w : Setup) (t : Tile) → Plain (AtHome w) t (writes w t)
@@ -138,7 +142,7 @@ told_one w from msg told e = All-cons (ToldRightly w from msg) told [] e (All-ni
 
 told_put : (w : Setup) (from : ℕ) (msg : Msg) (line : ℕ) (content : Option LineData) → All (ToldRightly w from msg) (put_home w line content)
 told_put w from msg line None = All-nil (ToldRightly w from msg)
-told_put w from msg line (Some content) = told_one w from msg (to_home w line (gives_up content)) refl
+told_put w from msg line (Some content) = told_one w from msg (to_home w line (GivesUp content)) refl
 
 told_victim : (w : Setup) (t : Tile) (from : ℕ) (msg : Msg) (victim : Option (ℕ × Hold)) → All (ToldRightly w from msg) (victim_told w t victim)
 told_victim w t from msg None = All-nil (ToldRightly w from msg)
@@ -205,18 +209,18 @@ inv_place t line (Some way) = elim (is_only_read way.hold) as (λ b. place_of (i
   | false ↦ refl
 ]
 
-fetched_cache : (t : Tile) (line : ℕ) (write : Bool) → IsCache t.cache → IsCache (fetched_tile t line write).cache
-fetched_cache t line false h = IsCache-downgraded t.cache line h
-fetched_cache t line true h = IsCache-without t.cache line h
+fetched_cache : (t : Tile) (line : ℕ) (want : Want) → IsCache t.cache → IsCache (fetched_tile t line want).cache
+fetched_cache t line Read h = IsCache-downgraded t.cache line h
+fetched_cache t line Write h = IsCache-without t.cache line h
 
-fetched_place : (t : Tile) (line : ℕ) (write : Bool) → place_of (fetched_tile t line write) ≡ place_of t
-fetched_place t line false = refl
-fetched_place t line true = refl
+fetched_place : (t : Tile) (line : ℕ) (want : Want) → place_of (fetched_tile t line want) ≡ place_of t
+fetched_place t line Read = refl
+fetched_place t line Write = refl
 
-fetch_plain : (w : Setup) (t : Tile) (from : ℕ) (msg : Msg) (line : ℕ) (write : Bool) (found : Option Way) → down_about line msg ≢ None → Plain (ToldRightly w from msg) t (fetch_by t from line write found)
-fetch_plain w t from msg line write None word = quiet_plain _ t
-fetch_plain w t from msg line write (Some way) word =
-    plain_if _ (is_only_read way.hold) t _ _ (quiet_plain _ t) (tells_plain w t (fetched_tile t line write) from msg line (answers way.content) (refl, word) (fetched_cache t line write) (fetched_place t line write))
+fetch_plain : (w : Setup) (t : Tile) (from : ℕ) (msg : Msg) (line : ℕ) (want : Want) (found : Option Way) → down_about line msg ≢ None → Plain (ToldRightly w from msg) t (fetch_by t from line want found)
+fetch_plain w t from msg line want None word = quiet_plain _ t
+fetch_plain w t from msg line want (Some way) word =
+    plain_if _ (is_only_read way.hold) t _ _ (quiet_plain _ t) (tells_plain w t (fetched_tile t line want) from msg line (HandsOver way.content) (refl, word) (fetched_cache t line want) (fetched_place t line want))
 
 return_plain : (P : Told → Type 0) (w : Setup) (t : Tile) (value time limit : ℕ) (status : Status) → Plain P t (return_taken w t value time limit status)
 return_plain P w t value time limit Called = still P t _ (λ h. h) refl refl refl
@@ -243,9 +247,9 @@ taken_plain w t from (InvAck line) e = cc
 taken_plain w t from (FetchAck line content) e = cc
 taken_plain w t from (DataS line content delay) e = data_plain w t from (DataS line content delay) line S content delay t.core.status
 taken_plain w t from (DataM line content delay) e = data_plain w t from (DataM line content delay) line M content delay t.core.status
-taken_plain w t from (Inv line) e = tells_plain w t (inv_tile t line (way_of t.cache line)) from (Inv line) line acknowledges (refl, is_word line drops) (inv_cache t line (way_of t.cache line)) (inv_place t line (way_of t.cache line))
-taken_plain w t from (Fetch line) e = fetch_plain w t from (Fetch line) line false (way_of t.cache line) (is_word line (fetches false))
-taken_plain w t from (FetchInv line) e = fetch_plain w t from (FetchInv line) line true (way_of t.cache line) (is_word line (fetches true))
+taken_plain w t from (Inv line) e = tells_plain w t (inv_tile t line (way_of t.cache line)) from (Inv line) line Acknowledges (refl, is_word line drops) (inv_cache t line (way_of t.cache line)) (inv_place t line (way_of t.cache line))
+taken_plain w t from (Fetch line) e = fetch_plain w t from (Fetch line) line Read (way_of t.cache line) (is_word line (fetches Read))
+taken_plain w t from (FetchInv line) e = fetch_plain w t from (FetchInv line) line Write (way_of t.cache line) (is_word line (fetches Write))
 taken_plain w t from (Return value time limit) e = return_plain _ w t value time limit t.core.status
 taken_plain w t from (Start thread entry arg time limit) e = start_plain _ w t thread entry arg time limit t.core.status
 taken_plain w t from (Limit limit) e = limit_plain _ t limit t.core.status

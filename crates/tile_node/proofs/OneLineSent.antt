@@ -9,11 +9,15 @@ use Rattle.std.specs.Option.{option_map_or}
 use Rattle.sim_base.specs.Numbering.{home_of}
 use Rattle.elf_image.specs.Layout.{Setup}
 use Rattle.wire_msg.specs.declared.messages.Msg.{Msg}
-use Rattle.wire_msg.specs.Message.{Up, asks, gives_up, acknowledges, answers, up_of, down_of, is_about, up_about, down_about, ups, downs}
+use Rattle.wire_msg.specs.declared.lines.Want.TheVariants.{Read, Write}
+use Rattle.wire_msg.specs.declared.lines.Up.{Up}
+use Rattle.wire_msg.specs.declared.lines.Up.TheVariants.{Asks, GivesUp, Acknowledges, HandsOver}
+use Rattle.wire_msg.specs.Message.{up_of, down_of, is_about, up_about, down_about, ups, downs}
 use Rattle.tile_node.specs.Tile.{Act, Told, told_message, up_message, sent_by}
 use Rattle.tile_node.specs.Step.{tile_step}
 use Rattle.tile_node.specs.Deliver.{tile_delivered}
-use Rattle.tile_node.specs.OneLine.{told_about, says_about, IsToldTo, messages_to, UpsAreTold, IsFromHome, StepUpsAreTold, DeliverUpsAreTold, StepSaysNothingDown, DeliverSaysNothingDown}
+use Rattle.tile_node.specs.OneLine.{told_about, says_about, messages_to}
+use Rattle.tile_node.specs.OneLineLaws.{IsToldTo, UpsAreTold, IsFromHome, StepUpsAreTold, DeliverUpsAreTold, StepSaysNothingDown, DeliverSaysNothingDown}
 use Rattle.tile_node.proofs.OneLinePlain.{AtHome, ToldRightly, IsElse, step_told, step_leaves, deliver_leaves}
 use Rattle.tile_node.proofs.OneLineHomes.{deliver_told, deliver_silent}
 
@@ -49,11 +53,11 @@ silent about node (m ∷ sent) all =
 -- what is told goes to the line's home
 
 up_is : (k line : ℕ) (says : Up) → up_about k (up_message line says) ≡ (if line == k then Some says else None)
-up_is k line (asks false) = refl
-up_is k line (asks true) = refl
-up_is k line (gives_up content) = refl
-up_is k line acknowledges = refl
-up_is k line (answers content) = refl
+up_is k line (Asks Read) = refl
+up_is k line (Asks Write) = refl
+up_is k line (GivesUp content) = refl
+up_is k line Acknowledges = refl
+up_is k line (HandsOver content) = refl
 
 told_ups : (w : Setup) (k : ℕ) (told : List Told) → All (AtHome w) told → ups k (messages_to (home_of w.config k) (map told_message told)) ≡ told_about k told
 told_ups w k [] all = refl
@@ -95,10 +99,10 @@ step_ups w t k =
     (All-weaker IsElse (λ (m : ℕ × Msg). up_about k m.1 ≡ None) (up_else k) (tile_step w t).mail (step_leaves w t).mail)
 
 told_home : (w : Setup) (from : ℕ) (msg : Msg) (to line : ℕ) (says : Up) → IsFromHome w from msg → IsToldTo w from msg to line says → to ≡ home_of w.config line
-told_home w from msg to line (asks write) home e = e
-told_home w from msg to line (gives_up content) home e = e
-told_home w from msg to line acknowledges home e = e.0 ∙ home line e.1
-told_home w from msg to line (answers content) home e = e.0 ∙ home line e.1
+told_home w from msg to line (Asks want) home e = e
+told_home w from msg to line (GivesUp content) home e = e
+told_home w from msg to line Acknowledges home e = e.0 ∙ home line e.1
+told_home w from msg to line (HandsOver content) home e = e.0 ∙ home line e.1
 
 pub deliver_ups : DeliverUpsAreTold
 deliver_ups w t from msg k home =
@@ -109,11 +113,11 @@ deliver_ups w t from msg k home =
 -- nothing is said from a home
 
 up_down : (k line : ℕ) (says : Up) → down_about k (up_message line says) ≡ None
-up_down k line (asks false) = alike (line == k) None
-up_down k line (asks true) = alike (line == k) None
-up_down k line (gives_up content) = alike (line == k) None
-up_down k line acknowledges = alike (line == k) None
-up_down k line (answers content) = alike (line == k) None
+up_down k line (Asks Read) = alike (line == k) None
+up_down k line (Asks Write) = alike (line == k) None
+up_down k line (GivesUp content) = alike (line == k) None
+up_down k line Acknowledges = alike (line == k) None
+up_down k line (HandsOver content) = alike (line == k) None
 
 told_downs : (k : ℕ) (told : List Told) → All (λ m. down_about k m.1 ≡ None) (map told_message told)
 told_downs k [] = All-nil (λ (m : ℕ × Msg). down_about k m.1 ≡ None)

@@ -4,7 +4,8 @@ use Rattle.std.specs.Prelude.{Option, slice_index, ◌==◌}
 use Rattle.sim_base.specs.Numbering.{home_of}
 use Rattle.rv_exec.specs.Access.{Asked}
 use Rattle.elf_image.specs.Layout.{Setup}
-use Rattle.wire_msg.specs.Message.{asks}
+use Rattle.wire_msg.specs.declared.lines.Want.TheVariants.{Write}
+use Rattle.wire_msg.specs.declared.lines.Up.TheVariants.{Asks}
 use Rattle.tile_core.specs.declared.plans.Plan.{Plan}
 use Rattle.tile_core.specs.declared.plans.Plan.TheVariants.{Local, Access, ScFails, Send, Exit, Write, Trap}
 use Rattle.tile_core.specs.Gathering.{is_gathered, with_byte}
@@ -16,17 +17,18 @@ use Rattle.tile_cache.specs.Copy.{held_as, copy_in, copy_of, with_data}
 use Rattle.tile_cache.proofs.CopyLemmas.{touch_hides}
 use Rattle.tile_node.specs.Tile.{Tile, Act, suits, place_in_line}
 use Rattle.tile_node.specs.Step.{can_step, is_writing, waits_for_limit, looks_around, misses, reads_byte_by, writes, accesses_by, follows, works}
-use Rattle.tile_node.specs.OneLine.{wants, wants_write, told_about, data_after, nothing, hit, asked, at_line, needs, follows_at, writes_at, works_at, Shows, StepShows}
+use Rattle.tile_node.specs.OneLine.{wants, want_for, told_about, data_after, nothing, hit, asked, at_line, needs, follows_at, writes_at, works_at}
+use Rattle.tile_node.specs.OneLineLaws.{Shows, StepShows}
 use Rattle.tile_node.proofs.OneLineParts.{at_itself, elsewhere, test_turned, shows_if, shows_if_at, shows_else, leaves_lines, told_here, told_there, waits_for_nothing, with_held, used, used_here, used_there}
 use Rattle.tile_node.proofs.OneLineCaches.{IsCache-touched}
 
 -- a line is asked for
 misses_shows : (w : Setup) (t : Tile) (access : Option Asked) (k : ℕ) → can_step t ≡ true
-    → Shows t k (misses w t (line_missed t.core.write access) (wants_write access) access) (at_line (line_missed t.core.write access) k (asked (wants_write access)))
+    → Shows t k (misses w t (line_missed t.core.write access) (want_for access) access) (at_line (line_missed t.core.write access) k (asked (want_for access)))
 misses_shows w t access k can =
     let line : ℕ = line_missed t.core.write access in
-    shows_else t line k _ _ nothing (record { copy = refl; told = told_here (home_of w.config line) line (asks (wants_write access)); wants = at_itself line _ _ })
-    (λ ne. leaves_lines t k _ refl (told_there (home_of w.config line) line k (asks (wants_write access)) ne) (elsewhere line k _ _ (test_turned k line ne) ∙ sym (waits_for_nothing t.core.write k t.core.status can)))
+    shows_else t line k _ _ nothing (record { copy = refl; told = told_here (home_of w.config line) line (Asks (want_for access)); wants = at_itself line _ _ })
+    (λ ne. leaves_lines t k _ refl (told_there (home_of w.config line) line k (Asks (want_for access)) ne) (elsewhere line k _ _ (test_turned k line ne) ∙ sym (waits_for_nothing t.core.write k t.core.status can)))
 
 -- a copy after an access is done on it
 hit_copy : (t : Tile) (access : Option Asked) (way : Way) → IsCache t.cache → way_of t.cache (line_missed t.core.write access) ≡ Some way

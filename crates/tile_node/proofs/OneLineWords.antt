@@ -9,45 +9,48 @@ use Rattle.rv_exec.specs.declared.access.AccessOp.TheVariants.{Load}
 use Rattle.rv_exec.specs.Access.{Asked}
 use Rattle.wire_msg.specs.declared.messages.Msg.{Msg}
 use Rattle.wire_msg.specs.declared.messages.Msg.TheVariants.{GetS, GetM, PutM, InvAck, FetchAck, DataS, DataM, Inv, Fetch, FetchInv}
+use Rattle.wire_msg.specs.declared.lines.Want.{Want}
+use Rattle.wire_msg.specs.declared.lines.Want.TheVariants.{Read, Write}
 use Rattle.wire_msg.specs.Message.{Down, gives, drops, fetches, may_send, down_about}
 use Rattle.tile_core.specs.declared.cores.Status.{Status}
 use Rattle.tile_core.specs.declared.cores.Status.TheVariants.{Miss}
 use Rattle.tile_core.specs.Core.{line_missed}
 use Rattle.tile_cache.specs.declared.ways.Hold.{Hold}
 use Rattle.tile_cache.specs.Cache.{victim_of}
-use Rattle.tile_node.specs.Tile.{Tile, suits, is_write}
+use Rattle.tile_node.specs.Tile.{Tile, suits, access_want}
 use Rattle.tile_node.specs.Deliver.{hold_suits}
-use Rattle.tile_node.specs.OneLine.{wants, wants_by, wants_write, data_after, Happening, nothing, came, evicted, invalidated, fetched, at_line, leaves_at, data_at, taken_at, takes, hold_given, heard, DownsHappen, OthersLeave}
+use Rattle.tile_node.specs.OneLine.{wants, wants_by, want_for, data_after, Happening, nothing, came, evicted, invalidated, fetched, at_line, leaves_at, data_at, taken_at, takes, hold_given, heard}
+use Rattle.tile_node.specs.OneLineLaws.{DownsHappen, OthersLeave}
 use Rattle.tile_node.proofs.OneLineParts.{at_itself, elsewhere, test_turned}
 
 -- what a word about a line is at a line
 abbrev word_at : Tile → ℕ → Down → ℕ → Happening
-word_at t line (gives write content) k = data_at t line (hold_given write) content t.core.status k
+word_at t line (gives want content) k = data_at t line (hold_given want) content t.core.status k
 word_at t line drops k = at_line line k invalidated
-word_at t line (fetches write) k = at_line line k (fetched write)
+word_at t line (fetches want) k = at_line line k (fetched want)
 
 -- data is taken where it is waited for so
-takes_op : (write : Bool) (op : AccessOp) → takes write (Some (is_write op)) ≡ suits op (hold_given write)
-takes_op write Load = refl
-takes_op true _ = refl
-takes_op false _ = refl
+takes_op : (want : Want) (op : AccessOp) → takes want (Some (access_want op)) ≡ suits op (hold_given want)
+takes_op want Load = refl
+takes_op Write _ = refl
+takes_op Read _ = refl
 
-takes_is : (b write : Bool) (access : Option Asked) → takes write (if b then Some (wants_write access) else None) ≡ (b && hold_suits access (hold_given write))
-takes_is false write access = refl
-takes_is true write None = refl
-takes_is true write (Some access) = takes_op write access.op
+takes_is : (b : Bool) (want : Want) (access : Option Asked) → takes want (if b then Some (want_for access) else None) ≡ (b && hold_suits access (hold_given want))
+takes_is false want access = refl
+takes_is true want None = refl
+takes_is true want (Some access) = takes_op want access.op
 
-data_here : (t : Tile) (k : ℕ) (write : Bool) (content : LineData) (status : Status)
-    → data_at t k (hold_given write) content status k ≡ heard status (wants_by t.core.write k status) (gives write content)
-data_here t k write content (Miss access) =
-    ap (λ h. if line_missed t.core.write access == k && hold_suits access (hold_given write) then h else nothing) (at_itself k _ _)
-    ∙ ap (λ b. if b then came (hold_given write) (data_after access content) else nothing) (sym (takes_is (line_missed t.core.write access == k) write access))
-data_here t k write content _ = refl
+data_here : (t : Tile) (k : ℕ) (want : Want) (content : LineData) (status : Status)
+    → data_at t k (hold_given want) content status k ≡ heard status (wants_by t.core.write k status) (gives want content)
+data_here t k want content (Miss access) =
+    ap (λ h. if line_missed t.core.write access == k && hold_suits access (hold_given want) then h else nothing) (at_itself k _ _)
+    ∙ ap (λ b. if b then came (hold_given want) (data_after access content) else nothing) (sym (takes_is (line_missed t.core.write access == k) want access))
+data_here t k want content _ = refl
 
 word_here : (t : Tile) (k : ℕ) (word : Down) → word_at t k word k ≡ heard t.core.status (wants t k) word
-word_here t k (gives write content) = data_here t k write content t.core.status
+word_here t k (gives want content) = data_here t k want content t.core.status
 word_here t k drops = at_itself k _ _
-word_here t k (fetches write) = at_itself k _ _
+word_here t k (fetches want) = at_itself k _ _
 
 -- a message that says this of this line
 said : (t : Tile) (line k : ℕ) (word says : Down) → (if line == k then Some word else None) ≡ Some says → word_at t line word k ≡ heard t.core.status (wants t k) says
@@ -65,11 +68,11 @@ unsaid true says e = none-some says e
 unsaid false says e = none-some says e
 
 taken_word : (t : Tile) (msg : Msg) (k : ℕ) (says : Down) → down_about k msg ≡ Some says → taken_at t msg k ≡ heard t.core.status (wants t k) says
-taken_word t (DataS line content delay) k says e = said t line k (gives false content) says e
-taken_word t (DataM line content delay) k says e = said t line k (gives true content) says e
+taken_word t (DataS line content delay) k says e = said t line k (gives Read content) says e
+taken_word t (DataM line content delay) k says e = said t line k (gives Write content) says e
 taken_word t (Inv line) k says e = said t line k drops says e
-taken_word t (Fetch line) k says e = said t line k (fetches false) says e
-taken_word t (FetchInv line) k says e = said t line k (fetches true) says e
+taken_word t (Fetch line) k says e = said t line k (fetches Read) says e
+taken_word t (FetchInv line) k says e = said t line k (fetches Write) says e
 taken_word t (GetS line) k says e = absurd (unsaid (line == k) says e)
 taken_word t (GetM line) k says e = absurd (unsaid (line == k) says e)
 taken_word t (PutM line content) k says e = absurd (unsaid (line == k) says e)
@@ -101,20 +104,20 @@ data_elsewhere t line hold content (Miss access) k ne =
 data_elsewhere t line hold content _ k ne = inl refl
 
 word_elsewhere : (t : Tile) (line k : ℕ) (word : Down) → (k == line) ≡ false → Leaves (word_at t line word k)
-word_elsewhere t line k (gives write content) ne = data_elsewhere t line (hold_given write) content t.core.status k ne
+word_elsewhere t line k (gives want content) ne = data_elsewhere t line (hold_given want) content t.core.status k ne
 word_elsewhere t line k drops ne = inl (elsewhere k line _ _ ne)
-word_elsewhere t line k (fetches write) ne = inl (elsewhere k line _ _ ne)
+word_elsewhere t line k (fetches want) ne = inl (elsewhere k line _ _ ne)
 
 not_said : (t : Tile) (line k : ℕ) (word : Down) → (if line == k then Some word else None) ≡ None → Leaves (word_at t line word k)
 not_said t line k word e =
     word_elsewhere t line k word (test_turned line k (false_from_ne_true (line == k) (λ same. none-some word (sym e ∙ cond-true (line == k) _ _ same))))
 
 taken_elsewhere : (t : Tile) (msg : Msg) (k : ℕ) → down_about k msg ≡ None → Leaves (taken_at t msg k)
-taken_elsewhere t (DataS line content delay) k e = not_said t line k (gives false content) e
-taken_elsewhere t (DataM line content delay) k e = not_said t line k (gives true content) e
+taken_elsewhere t (DataS line content delay) k e = not_said t line k (gives Read content) e
+taken_elsewhere t (DataM line content delay) k e = not_said t line k (gives Write content) e
 taken_elsewhere t (Inv line) k e = not_said t line k drops e
-taken_elsewhere t (Fetch line) k e = not_said t line k (fetches false) e
-taken_elsewhere t (FetchInv line) k e = not_said t line k (fetches true) e
+taken_elsewhere t (Fetch line) k e = not_said t line k (fetches Read) e
+taken_elsewhere t (FetchInv line) k e = not_said t line k (fetches Write) e
 taken_elsewhere t _ k e = inl refl
 
 pub others_leave : OthersLeave

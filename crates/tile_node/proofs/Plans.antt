@@ -2,6 +2,7 @@
 use Rattle.std.proofs.Common.{◌≡◌, ℕ, ◌++◌, Bool, true, false, List, Some, refl, sym, ap, ◌∙◌}
 use Rattle.std.specs.Prelude.{not, ◌&&◌, Ok}
 use Rattle.std.proofs.lemmas.Bool.{and_parts}
+use Rattle.std.specs.Bool.{OnTrue}
 use Rattle.std.proofs.lemmas.List.{append-nil}
 use Rattle.sim_base.specs.declared.actions.Action.TheVariants.{Exec}
 use Rattle.sim_base.specs.declared.kinds.CostClass.{CostClass}
@@ -21,13 +22,13 @@ use Rattle.tile_core.specs.Plan.{plan_by, plan_of}
 use Rattle.tile_core.specs.declared.cores.Status.{Status}
 use Rattle.tile_core.specs.declared.cores.Status.TheVariants.{Idle, Run, Miss, Called, Writing, AtBarrier, Probing, Trapped}
 use Rattle.wire_msg.specs.declared.messages.Msg.{Msg}
-use Rattle.tile_node.specs.Tile.{Tile, sent_by}
+use Rattle.tile_node.specs.Tile.{Tile, Act, sent_by}
 use Rattle.tile_node.specs.Answers.{Answers, IsOf}
-use Rattle.tile_node.specs.AtOnce.{IsMadeAtOnce, StepsAtOnce, runs, runs_freely}
+use Rattle.tile_node.specs.AtOnce.{IsQuietStep, StepsQuietly, runs, runs_freely}
 use Rattle.tile_node.specs.Step.{accesses, does_locally, follows, tile_step, steps_in, can_step, waits_for_limit, looks_around}
 use Rattle.tile_node.specs.declared.at_once.Attempt.{Attempt}
 use Rattle.tile_node.specs.declared.at_once.Attempt.TheVariants.{Done, Asks, Other}
-use Rattle.tile_node.specs.Inner.{Attempts, DoesAtOnce, IsDoneAtOnce, is_done}
+use Rattle.tile_node.specs.Inner.{Attempts, is_done}
 use Rattle.tile_node.proofs.Fits.{step_fits}
 use Rattle.tile_node.proofs.OneLinePlain.{step_keeps_number}
 
@@ -46,7 +47,7 @@ plan_of_next w core i rd value pc found e =
 pub next_at_once : (w : Setup) (v t : Tile) → v ≡ t → (new : Tile) (i lent : Instr) (rd value pc cost : ℕ) (class : CostClass)
     → instruction w v.core.pc ≡ Some i → lent ≡ i → effect_of lent v.core.regs v.core.pc ≡ Next rd value pc → class ≡ class_of i
     → cost ≡ cost_of w.config class → new ≡ (does_locally t rd value pc cost).tile
-    → IsDoneAtOnce t new (follows w t (plan_of w t.core))
+    → IsQuietStep t new (follows w t (plan_of w t.core))
 next_at_once w v t is new i lent rd value pc cost class found same e of_class of_cost made =
     let plan : plan_of w t.core ≡ Local rd value pc (cost_of w.config (class_of i)) false =
     rw (← is) (plan_of_next w v.core i rd value pc found (rw same at e)) in
@@ -69,19 +70,19 @@ access_planned w v t is i lent access allowed found same e tells has =
     rw (← is) (plan_of_access w v.core i access found (rw same at e) (sym tells ∙ has))
 
 pub access_done : (w : Setup) (t new : Tile) (access : Asked) (does : Bool) → plan_of w t.core ≡ Access access → does ≡ true
-    → DoesAtOnce does t new (accesses w t access) → IsDoneAtOnce t new (follows w t (plan_of w t.core))
+    → StepsQuietly does t new (accesses w t access) → IsQuietStep t new (follows w t (plan_of w t.core))
 access_done w t new access does plan has made =
-    let done : DoesAtOnce true t new (accesses w t access) = rw has at made in
+    let done : StepsQuietly true t new (accesses w t access) = rw has at made in
     rw plan done
 
-pub access_asked : (w : Setup) (t new : Tile) (access : Asked) (does : Bool) → does ≡ false → DoesAtOnce does t new (accesses w t access) → new ≡ t
+pub access_asked : (w : Setup) (t new : Tile) (access : Asked) (does : Bool) → does ≡ false → StepsQuietly does t new (accesses w t access) → new ≡ t
 access_asked w t new access does not made =
-    let left : DoesAtOnce false t new (accesses w t access) = rw not at made in
+    let left : StepsQuietly false t new (accesses w t access) = rw not at made in
     left
 
 -- what an attempt did
 pub attempted : (w : Setup) (attempt : Attempt) (t new : Tile) → Attempts w attempt t new
-    → DoesAtOnce (is_done attempt) t new (follows w t (plan_of w t.core))
+    → StepsQuietly (is_done attempt) t new (follows w t (plan_of w t.core))
 attempted w Done t new made = made
 attempted w (Asks access) t new made = made.0
 attempted w Other t new made = made
@@ -121,35 +122,39 @@ by_status (AtBarrier writing) h = cc
 by_status (Probing writing partner replies) h = cc
 by_status Trapped h = cc
 
-step_made : (w : Setup) (t new : Tile) (does : Bool) → runs_freely w.config t.core ≡ true → DoesAtOnce does t new (follows w t (plan_of w t.core))
-    → StepsAtOnce does t new (tile_step w t)
-step_made w t new true free made =
+can_again : (w : Setup) (t new : Tile) (does : Bool) (act : Act) → runs_freely w.config t.core ≡ true → StepsQuietly does t new act → OnTrue does (can_step new ≡ true)
+can_again w t new true act free made =
     let waits = waits_for_limit w.config.policy t.core.clock t.core.limit in
     let looks = looks_around w.config.policy w.config.tiles t.core.clock t.core.next_check in
-    let step : tile_step w t ≡ follows w t (plan_of w t.core) = free_step w t free in
     let ran : runs t.core.status ≡ true = (and_parts (runs t.core.status) (not waits) (and_parts (runs t.core.status && not waits) (not looks) free).0).0 in
-    let can : can_step new ≡ true = rw made.stays (by_status t.core.status ran) in
-    rw step (record { tile = made.tile; quiet = made.quiet; commits = made.commits; again = can })
-step_made w t new false free made = made
+    rw made.stays (by_status t.core.status ran)
+can_again w t new false act free made = tt
+
+step_made : (w : Setup) (t new : Tile) (does : Bool) → runs_freely w.config t.core ≡ true → StepsQuietly does t new (follows w t (plan_of w t.core))
+    → StepsQuietly does t new (tile_step w t)
+step_made w t new does free made = rw (free_step w t free) made
 
 -- what is known of the tile after a step that was made at once, or wasn't
 pub record IsSteppedAtOnce (w : Setup) (t new : Tile) (does : Bool) : Type 0 where
-  pub step : StepsAtOnce does t new (tile_step w t)
+  pub step : StepsQuietly does t new (tile_step w t)
+  pub again : OnTrue does (can_step new ≡ true)
   pub fits : IsOf w new
   pub number : new.number ≡ t.number
 
-after_step : (w : Setup) (t new : Tile) (does : Bool) → IsOf w t → StepsAtOnce does t new (tile_step w t) → IsSteppedAtOnce w t new does
-after_step w t new true fits made = record {
+after_step : (w : Setup) (t new : Tile) (does : Bool) → IsOf w t → OnTrue does (can_step new ≡ true) → StepsQuietly does t new (tile_step w t) → IsSteppedAtOnce w t new does
+after_step w t new true fits again made = record {
   step = made;
+  again = again;
   fits = rw made.tile (step_fits w t fits);
   number = ap (λ (a : Tile). a.number) made.tile ∙ step_keeps_number w t;
 }
-after_step w t new false fits made = record { step = made; fits = rw made fits; number = ap (λ (a : Tile). a.number) made }
+after_step w t new false fits again made = record { step = made; again = again; fits = rw made fits; number = ap (λ (a : Tile). a.number) made }
 
 pub made_at_once : (w : Setup) (t new : Tile) (config : Config) (free does : Bool) → config ≡ w.config → IsOf w t → free ≡ runs_freely config t.core → free ≡ true
-    → DoesAtOnce does t new (follows w t (plan_of w t.core)) → IsSteppedAtOnce w t new does
+    → StepsQuietly does t new (follows w t (plan_of w t.core)) → IsSteppedAtOnce w t new does
 made_at_once w t new config free does same fits tells has made =
-    after_step w t new does fits (step_made w t new does (rw same at (sym tells ∙ has)) made)
+    let free : runs_freely w.config t.core ≡ true = rw same at (sym tells ∙ has) in
+    after_step w t new does fits (can_again w t new does _ free made) (step_made w t new does free made)
 
 pub done_at_once : (w : Setup) (t new : Tile) (config : Config) (free : Bool) (attempt : Attempt) → config ≡ w.config → IsOf w t → free ≡ runs_freely config t.core
     → free ≡ true → attempt ≡ Done → Attempts w attempt t new → IsSteppedAtOnce w t new true
@@ -158,7 +163,7 @@ done_at_once w t new config free attempt same fits tells has is made =
     made_at_once w t new config free true same fits tells has done
 
 -- what the step answers that did its instruction at once
-pub answers_at_once : (w : Setup) (v t : Tile) → v ≡ t → (new : Tile) (sent : List (ℕ × Msg)) → IsMadeAtOnce t new (tile_step w t) → v.spent ≡ false
+pub answers_at_once : (w : Setup) (v t : Tile) → v ≡ t → (new : Tile) (sent : List (ℕ × Msg)) → IsQuietStep t new (tile_step w t) → v.spent ≡ false
     → Answers (Ok (Some (Exec v.core.thread))) t new sent sent (tile_step w t)
 answers_at_once w v t is new sent made able =
     let stays : sent ≡ sent ++ sent_by (tile_step w t) = sym (ap (λ m. sent ++ m) made.quiet ∙ append-nil sent) in

@@ -1,4 +1,5 @@
--- Which steps of a tile are made at once: instructions that need nothing but the tile. This simulator's own.
+-- For the contracts of the code alone: which steps of a tile are quiet, instructions that need nothing but the tile, and what
+-- the code that makes them at once answers. The definition of a step doesn't speak of them. This simulator's own.
 use Rattle.std.specs.Prelude.{◌≡◌, ◌&&◌, not, Bool, true, false, [], Option, Some, None, is_some}
 use Rattle.sim_base.specs.declared.actions.Action.TheVariants.{Exec}
 use Rattle.sim_base.specs.declared.settings.Config.{Config}
@@ -18,7 +19,7 @@ use Rattle.tile_core.specs.declared.cores.Status.{Status}
 use Rattle.tile_core.specs.declared.cores.Status.TheVariants.{Run}
 use Rattle.tile_core.specs.Core.{line_at}
 use Rattle.tile_node.specs.Tile.{Tile, Act, sent_by}
-use Rattle.tile_node.specs.Step.{can_step, waits_for_limit, looks_around}
+use Rattle.tile_node.specs.Step.{waits_for_limit, looks_around}
 
 -- whether a core's thread executes an instruction in its step: it runs, and no policy holds it up
 abbrev pub runs : Status → Bool
@@ -52,14 +53,14 @@ executes_at_once w t (Some i) = is_local w t (effect_of i t.core.regs t.core.pc)
 abbrev pub steps_at_once : Setup → Tile → Bool
 steps_at_once w t = not t.spent && runs_freely w.config t.core && executes_at_once w t (instruction w t.core.pc)
 
--- what is made then: an instruction of the thread commits, nothing is sent and the tile can step again
-pub record IsMadeAtOnce (old new : Tile) (act : Act) : Type 0 where
+-- a quiet step is an act that is an instruction of the thread, sends nothing and leaves the core's status
+pub record IsQuietStep (old new : Tile) (act : Act) : Type 0 where
   pub tile : new ≡ act.tile
   pub quiet : sent_by act ≡ []
   pub commits : act.action ≡ Some (Exec old.core.thread)
-  pub again : can_step new ≡ true
+  pub stays : new.core.status ≡ old.core.status
 
--- what such a step answers; where it isn't made nothing changes
-abbrev pub StepsAtOnce : Bool → Tile → Tile → Act → Type 0
-StepsAtOnce true old new act = IsMadeAtOnce old new act
-StepsAtOnce false old new act = new ≡ old
+-- what a function answers that makes such a step; where it doesn't nothing changes
+abbrev pub StepsQuietly : Bool → Tile → Tile → Act → Type 0
+StepsQuietly true old new act = IsQuietStep old new act
+StepsQuietly false old new act = new ≡ old

@@ -10,8 +10,11 @@ use Rattle.rv_hart.specs.Start.{next_pc, with_answer}
 use Rattle.elf_image.specs.Layout.{Setup}
 use Rattle.wire_msg.specs.declared.messages.Msg.{Msg}
 use Rattle.wire_msg.specs.declared.messages.Msg.TheVariants.{GetS, GetM, PutM, InvAck, FetchAck, DataS, DataM, Inv, Fetch, FetchInv, Return, Start, Limit, Probe, ProbeReply}
+use Rattle.wire_msg.specs.declared.lines.Want.{Want}
+use Rattle.wire_msg.specs.declared.lines.Want.TheVariants.{Read, Write}
+use Rattle.wire_msg.specs.declared.lines.Up.{Up}
+use Rattle.wire_msg.specs.declared.lines.Up.TheVariants.{Asks, GivesUp, Acknowledges, HandsOver}
 use Rattle.wire_msg.specs.Message.{may_send}
-use Rattle.wire_msg.specs.Message.{Up, asks, gives_up, acknowledges, answers}
 use Rattle.tile_core.specs.declared.cores.Status.{Status}
 use Rattle.tile_core.specs.declared.cores.Status.TheVariants.{Idle, Run, Miss, Called, Writing, AtBarrier, Probing}
 use Rattle.tile_core.specs.Core.{begun, next_byte, line_missed}
@@ -32,7 +35,7 @@ home_does w t from line says =
 -- room for a line: the victim leaves, and goes home where it was in M, which ends a reservation on it
 abbrev pub put_home : Setup → ℕ → Option LineData → List Told
 put_home w line None = []
-put_home w line (Some content) = to_home w line (gives_up content) ∷ []
+put_home w line (Some content) = to_home w line (GivesUp content) ∷ []
 
 abbrev pub given_up_tile : Tile → ℕ → Tile
 given_up_tile t line = record t { cache = without_line t.cache line; core = without_reservation_on line t.core }
@@ -88,22 +91,22 @@ inv_tile t line None = t
 inv_tile t line (Some way) = if is_only_read way.hold then record t { cache = without_line t.cache line } else t
 
 abbrev pub inv_taken : Tile → ℕ → ℕ → Act
-inv_taken t from line = record (quiet (inv_tile t line (way_of t.cache line))) { told = told_to from line acknowledges }
+inv_taken t from line = record (quiet (inv_tile t line (way_of t.cache line))) { told = told_to from line Acknowledges }
 
--- a line in M is handed back: for a reader it stays in S, for a writer it goes. A line that isn't there in M was given
+-- a line in M is handed over: for a reader it stays in S, for a writer it goes. A line that isn't there in M was given
 -- up already, which its home hears of
-abbrev pub fetched_tile : Tile → ℕ → Bool → Tile
-fetched_tile t line false = record t { cache = downgraded t.cache line; core = without_reservation_on line t.core }
-fetched_tile t line true = given_up_tile t line
+abbrev pub fetched_tile : Tile → ℕ → Want → Tile
+fetched_tile t line Read = record t { cache = downgraded t.cache line; core = without_reservation_on line t.core }
+fetched_tile t line Write = given_up_tile t line
 
-abbrev pub fetch_by : Tile → ℕ → ℕ → Bool → Option Way → Act
-fetch_by t from line write None = quiet t
-fetch_by t from line write (Some way) =
+abbrev pub fetch_by : Tile → ℕ → ℕ → Want → Option Way → Act
+fetch_by t from line want None = quiet t
+fetch_by t from line want (Some way) =
     if is_only_read way.hold then quiet t
-    else record (quiet (fetched_tile t line write)) { told = told_to from line (answers way.content) }
+    else record (quiet (fetched_tile t line want)) { told = told_to from line (HandsOver way.content) }
 
-abbrev pub fetch_taken : Tile → ℕ → ℕ → Bool → Act
-fetch_taken t from line write = fetch_by t from line write (way_of t.cache line)
+abbrev pub fetch_taken : Tile → ℕ → ℕ → Want → Act
+fetch_taken t from line want = fetch_by t from line want (way_of t.cache line)
 
 -- an answer comes to a call
 abbrev pub return_taken : Setup → Tile → ℕ → ℕ → ℕ → Status → Act
@@ -163,16 +166,16 @@ reply_taken w t running clock _ = quiet t
 
 -- each message from a node that may send it
 abbrev pub taken : Setup → Tile → ℕ → Msg → Act
-taken w t from (GetS line) = home_does w t from line (asks false)
-taken w t from (GetM line) = home_does w t from line (asks true)
-taken w t from (PutM line content) = home_does w t from line (gives_up content)
-taken w t from (InvAck line) = home_does w t from line acknowledges
-taken w t from (FetchAck line content) = home_does w t from line (answers content)
+taken w t from (GetS line) = home_does w t from line (Asks Read)
+taken w t from (GetM line) = home_does w t from line (Asks Write)
+taken w t from (PutM line content) = home_does w t from line (GivesUp content)
+taken w t from (InvAck line) = home_does w t from line Acknowledges
+taken w t from (FetchAck line content) = home_does w t from line (HandsOver content)
 taken w t from (DataS line content delay) = data_taken w t line S content delay t.core.status
 taken w t from (DataM line content delay) = data_taken w t line M content delay t.core.status
 taken w t from (Inv line) = inv_taken t from line
-taken w t from (Fetch line) = fetch_taken t from line false
-taken w t from (FetchInv line) = fetch_taken t from line true
+taken w t from (Fetch line) = fetch_taken t from line Read
+taken w t from (FetchInv line) = fetch_taken t from line Write
 taken w t from (Return value time limit) = return_taken w t value time limit t.core.status
 taken w t from (Start thread entry arg time limit) = start_taken w t thread entry arg time limit t.core.status
 taken w t from (Limit limit) = limit_taken t limit t.core.status

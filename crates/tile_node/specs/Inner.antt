@@ -15,6 +15,7 @@ use Rattle.tile_core.specs.declared.plans.Plan.TheVariants.{Access}
 use Rattle.tile_core.specs.Plan.{plan_of}
 use Rattle.tile_node.specs.declared.at_once.Attempt.{Attempt}
 use Rattle.tile_node.specs.declared.at_once.Attempt.TheVariants.{Done, Asks, Other}
+use Rattle.tile_node.specs.AtOnce.{IsQuietStep}
 use Rattle.tile_node.specs.Step.{follows}
 use Rattle.tile_node.specs.Tile.{Tile, Act, sent_by, accessed, with_written, one_more, later, access_class}
 
@@ -35,18 +36,6 @@ Makes (Err e) old new out_old out_new act = IsKept old new
 abbrev pub MakesAlone : Option Action → Tile → Act → Type 0
 MakesAlone action new act = (new ≡ act.tile) × (sent_by act ≡ []) × (action ≡ act.action)
 
--- an act was done that is an instruction of the thread, sends nothing and leaves the core's status
-pub record IsDoneAtOnce (old new : Tile) (act : Act) : Type 0 where
-  pub tile : new ≡ act.tile
-  pub quiet : sent_by act ≡ []
-  pub commits : act.action ≡ Some (Exec old.core.thread)
-  pub stays : new.core.status ≡ old.core.status
-
--- what a function answers that does such an act; where it doesn't nothing changes
-abbrev pub DoesAtOnce : Bool → Tile → Tile → Act → Type 0
-DoesAtOnce true old new act = IsDoneAtOnce old new act
-DoesAtOnce false old new act = new ≡ old
-
 -- whether an attempt to do the next instruction at once did it
 abbrev pub is_done : Attempt → Bool
 is_done Done = true
@@ -55,7 +44,7 @@ is_done Other = false
 
 -- what it answers: the instruction is done by its plan; or nothing changed, and its plan may be known to be an access
 abbrev pub Attempts : Setup → Attempt → Tile → Tile → Type 0
-Attempts w Done old new = IsDoneAtOnce old new (follows w old (plan_of w old.core))
+Attempts w Done old new = IsQuietStep old new (follows w old (plan_of w old.core))
 Attempts w (Asks access) old new = (new ≡ old) × (plan_of w old.core ≡ Access access)
 Attempts w Other old new = new ≡ old
 

@@ -4,6 +4,7 @@ pub mod Tile
 pub mod Step
 pub mod Deliver
 pub mod OneLine
+pub mod OneLineLaws
 pub mod Answers
 pub mod AtOnce
 pub mod Inner

@@ -14,7 +14,9 @@ use Rattle.elf_image.specs.Layout.{Setup}
 use Rattle.wire_msg.specs.declared.calls.Call.{Call as CallOf}
 use Rattle.wire_msg.specs.declared.calls.Call.TheVariants.{Write as WriteCall}
 use Rattle.wire_msg.specs.declared.messages.Msg.TheVariants.{Call, Exit as ExitMsg, Trapped as TrappedMsg, Reached, Probe}
-use Rattle.wire_msg.specs.Message.{asks}
+use Rattle.wire_msg.specs.declared.lines.Want.{Want}
+use Rattle.wire_msg.specs.declared.lines.Want.TheVariants.{Read}
+use Rattle.wire_msg.specs.declared.lines.Up.TheVariants.{Asks}
 use Rattle.tile_core.specs.declared.cores.Status.{Status}
 use Rattle.tile_core.specs.declared.cores.Status.TheVariants.{Idle, Run, Miss, Called, Writing, AtBarrier, Probing, Trapped}
 use Rattle.tile_core.specs.declared.plans.Plan.{Plan}
@@ -25,7 +27,7 @@ use Rattle.tile_core.specs.Plan.{plan_of}
 use Rattle.tile_cache.specs.declared.ways.Way.{Way}
 use Rattle.tile_cache.specs.Cache.{way_of, touched}
 use Rattle.clock_policy.specs.Probe.{partner_of, after_draw}
-use Rattle.tile_node.specs.Tile.{Tile, Act, quiet, to_home, with_status, later, one_more, suits, is_write, access_cost, with_access, with_byte_got}
+use Rattle.tile_node.specs.Tile.{Tile, Act, quiet, to_home, with_status, later, one_more, suits, access_want, access_cost, with_access, with_byte_got}
 
 -- a tile can step while its thread runs or reads the bytes of a write
 abbrev pub steps_in : Status → Bool
@@ -62,9 +64,9 @@ probes t = record (quiet (with_status (record t { probes = after_draw t.probes }
 }
 
 -- a line that isn't there, or not as it has to be, is asked for
-abbrev pub misses : Setup → Tile → ℕ → Bool → Option Asked → Act
-misses w t line write access = record (quiet (record (with_status t (Miss access)) { misses = one_more t.misses })) {
-  told = to_home w line (asks write) ∷ [];
+abbrev pub misses : Setup → Tile → ℕ → Want → Option Asked → Act
+misses w t line want access = record (quiet (record (with_status t (Miss access)) { misses = one_more t.misses })) {
+  told = to_home w line (Asks want) ∷ [];
 }
 
 -- the third: all bytes of a write are read, and it is sent
@@ -75,7 +77,7 @@ sends_write w t = record (quiet (with_status t Called)) {
 
 -- the fourth: the next byte of a write, from its line where the cache has it
 abbrev pub reads_byte_by : Setup → Tile → ℕ → Option Way → Act
-reads_byte_by w t addr None = misses w t (line_at addr) false None
+reads_byte_by w t addr None = misses w t (line_at addr) Read None
 reads_byte_by w t addr (Some way) =
     record (quiet (record (with_byte_got t (touched t.cache (line_at addr)) addr way.content w.config.mem_cost) { hits = one_more t.hits })) {
       action = Some (LoadByte t.core.thread);
@@ -95,13 +97,13 @@ executes t = record (quiet (record t { instr = one_more t.instr })) { action = S
 
 -- a data access: done at once on the line, where the cache has it as the access needs it
 abbrev pub accesses_by : Setup → Tile → Asked → Option Way → Act
-accesses_by w t access None = misses w t (line_at access.addr) (is_write access.op) (Some access)
+accesses_by w t access None = misses w t (line_at access.addr) (access_want access.op) (Some access)
 accesses_by w t access (Some way) =
     if suits access.op way.hold
     then record (quiet (record (with_access t (touched t.cache (line_at access.addr)) access way.content (access_cost w access)) { hits = one_more t.hits })) {
       action = Some (Exec t.core.thread);
     }
-    else misses w t (line_at access.addr) (is_write access.op) (Some access)
+    else misses w t (line_at access.addr) (access_want access.op) (Some access)
 
 abbrev pub accesses : Setup → Tile → Asked → Act
 accesses w t access = accesses_by w t access (way_of t.cache (line_at access.addr))

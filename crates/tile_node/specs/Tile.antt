@@ -20,7 +20,10 @@ use Rattle.sim_base.specs.declared.kinds.CostClass.{CostClass}
 use Rattle.sim_base.specs.declared.kinds.CostClass.TheVariants.{Mem, Amo}
 use Rattle.wire_msg.specs.declared.messages.Msg.{Msg}
 use Rattle.wire_msg.specs.declared.messages.Msg.TheVariants.{GetS, GetM, PutM, InvAck, FetchAck}
-use Rattle.wire_msg.specs.Message.{Up, asks, gives_up, acknowledges, answers}
+use Rattle.wire_msg.specs.declared.lines.Want.{Want}
+use Rattle.wire_msg.specs.declared.lines.Want.TheVariants.{Read, Write}
+use Rattle.wire_msg.specs.declared.lines.Up.{Up}
+use Rattle.wire_msg.specs.declared.lines.Up.TheVariants.{Asks, GivesUp, Acknowledges, HandsOver}
 use Rattle.tile_core.specs.declared.cores.TileCore.{TileCore}
 use Rattle.tile_core.specs.declared.cores.Status.{Status}
 use Rattle.tile_core.specs.Core.{idle_core, begun, line_at}
@@ -88,11 +91,11 @@ quiet t = record { tile = t; told = []; mail = []; action = None }
 
 -- the message that says something about a line
 abbrev pub up_message : ℕ → Up → Msg
-up_message line (asks false) = GetS line
-up_message line (asks true) = GetM line
-up_message line (gives_up content) = PutM line content
-up_message line acknowledges = InvAck line
-up_message line (answers content) = FetchAck line content
+up_message line (Asks Read) = GetS line
+up_message line (Asks Write) = GetM line
+up_message line (GivesUp content) = PutM line content
+up_message line Acknowledges = InvAck line
+up_message line (HandsOver content) = FetchAck line content
 
 abbrev pub told_message : Told → ℕ × Msg
 told_message t = (t.to, up_message t.line t.says)
@@ -139,10 +142,10 @@ abbrev pub is_only_read : Hold → Bool
 is_only_read S = true
 is_only_read M = false
 
--- whether an access asks for a line to write it
-abbrev pub is_write : AccessOp → Bool
-is_write Load = false
-is_write _ = true
+-- what an access wants its line for: a load to read it, all others to write it
+abbrev pub access_want : AccessOp → Want
+access_want Load = Read
+access_want _ = Write
 
 -- what an access costs where its line is there
 abbrev pub access_class : AccessOp → CostClass

@@ -1,13 +1,11 @@
-//! An access on a line that the cache has: which hold it needs, its cost, and its effect.
-
-ghost use Rattle.std.specs.Prelude.{◌≡◌, ◌+◌, ◌*◌, ◌^◌, ◌<◌, ◌≤◌, ℕ, true, Some, IsSome};
+ghost use Rattle.std.specs.Prelude.{◌≡◌, ◌+◌, ◌*◌, ◌^◌, ◌<◌, ◌≤◌, ℕ, Some, IsSome};
 ghost use Rattle.std.specs.Bool.{OnTrue};
 ghost use Rattle.rv_exec.specs.Access.{finish_of};
 ghost use Rattle.rv_hart.specs.Reservation.{reserved};
 ghost use Rattle.sim_base.specs.Saturated.{saturated};
 ghost use Rattle.tile_cache.specs.Cache.{hold_of};
 ghost use Rattle.tile_core.specs.Core.{line_at};
-ghost use Rattle.tile_node.specs.Tile.{suits, is_write, access_class, place_in_line, one_more};
+ghost use Rattle.tile_node.specs.Tile.{suits, access_want, access_class, place_in_line, one_more};
 ghost use Rattle.tile_node.specs.Inner.{with_done, past};
 ghost use Rattle.mesh_model.specs.Cost.{cost_of};
 
@@ -17,6 +15,7 @@ use rv_exec::{Access, AccessOp, Done, finish};
 use rv_hart::reserved;
 use sim_base::{Action, CostClass, Line};
 use tile_cache::Hold;
+use wire_msg::Want;
 
 /// The line of an address.
 pub(crate) fn line_at(addr: u64) -> Line
@@ -46,7 +45,7 @@ pub(crate) fn place_of(access: &Access) -> u8
 /// Whether a hold is enough for an access: any for a load, M for all others.
 pub(crate) fn suits(op: AccessOp, hold: Hold) -> bool
     ensures test { result ≡ suits op hold }
-    ensures enough { OnTrue result (is_write op ≡ true → hold ≡ Hold.M) }
+    ensures enough { OnTrue result (access_want op ≡ Want.Write → hold ≡ Hold.M) }
 {
     match op {
         AccessOp::Load => true,
@@ -56,11 +55,14 @@ pub(crate) fn suits(op: AccessOp, hold: Hold) -> bool
     }
 }
 
-/// Whether an access asks for a line to write it.
-pub(crate) fn is_write(op: AccessOp) -> bool
-    ensures { result ≡ is_write op }
+/// What an access wants its line for: a load to read it, all others to write it.
+pub(crate) fn access_want(op: AccessOp) -> Want
+    ensures { result ≡ access_want op }
 {
-    !matches!(op, AccessOp::Load)
+    match op {
+        AccessOp::Load => Want::Read,
+        AccessOp::Store | AccessOp::Lr | AccessOp::Sc | AccessOp::Amo { .. } => Want::Write,
+    }
 }
 
 /// How many cycles an access takes where its line is there.
@@ -87,7 +89,7 @@ impl TileNode {
     #[tactic(auto, using(crate::proofs::Facts::writes_only))]
     pub(crate) fn do_access(&mut self, access: &Access, old: u64)
         requires number { old < 2 ^ (8 * access.now.size) }
-        requires held { is_write access.now.op ≡ true → hold_of self.old.cache (line_at access.now.addr) ≡ Some Hold.M }
+        requires held { access_want access.now.op ≡ Want.Write → hold_of self.old.cache (line_at access.now.addr) ≡ Some Hold.M }
         ensures { self.new ≡ with_done self.old access.now (finish_of access.now old) }
     {
         let done = finish(access, old);

@@ -1,13 +1,14 @@
 //! The steps that most events are: instructions that need nothing but the tile. They are made without a look at the plan.
-ghost use Rattle.std.specs.Prelude.{◌≡◌, is_some};
+ghost use Rattle.std.specs.Bool.{OnTrue};
+ghost use Rattle.std.specs.Prelude.{◌≡◌, true, is_some};
 ghost use Rattle.elf_image.specs.Layout.{instruction};
 ghost use Rattle.rv_exec.specs.declared.access.AccessOp.TheVariants.{Load, Store};
 ghost use Rattle.tile_cache.specs.Cache.{hold_of, is_m};
 ghost use Rattle.tile_core.specs.Core.{line_at};
-ghost use Rattle.tile_node.specs.Step.{accesses, tile_step, waits_for_limit, looks_around};
+ghost use Rattle.tile_node.specs.Step.{accesses, can_step, tile_step, waits_for_limit, looks_around};
 ghost use Rattle.tile_node.specs.Answers.{IsOf};
-ghost use Rattle.tile_node.specs.AtOnce.{StepsAtOnce, executes_at_once, hits_plainly, runs_freely, steps_at_once};
-ghost use Rattle.tile_node.specs.Inner.{Attempts, DoesAtOnce, is_done};
+ghost use Rattle.tile_node.specs.AtOnce.{StepsQuietly, executes_at_once, hits_plainly, runs_freely, steps_at_once};
+ghost use Rattle.tile_node.specs.Inner.{Attempts, is_done};
 
 use crate::accesses::{line_at, place_of};
 use crate::steps::{looks_around, waits_for_limit};
@@ -48,7 +49,8 @@ impl TileNode {
     pub fn step_at_once(&mut self, world: &World) -> bool
         requires { IsOf world.now self.old }
         ensures when { result ≡ steps_at_once world.now self.old }
-        ensures step { StepsAtOnce result self.old self.new (tile_step world.now self.old) }
+        ensures step { StepsQuietly result self.old self.new (tile_step world.now self.old) }
+        ensures again { OnTrue result (can_step self.new ≡ true) }
         ensures fits { IsOf world.now self.new }
         ensures number { self.new.number ≡ self.old.number }
     {
@@ -105,7 +107,7 @@ impl TileNode {
     #[inline(always)]
     fn access_at_once(&mut self, world: &World, access: &Access) -> bool
         ensures when { result ≡ hits_plainly self.old access.now }
-        ensures does { DoesAtOnce result self.old self.new (accesses world.now self.old access.now) }
+        ensures does { StepsQuietly result self.old self.new (accesses world.now self.old access.now) }
     {
         match access.op() {
             AccessOp::Load => self.load_at_once(world, access),
@@ -119,7 +121,7 @@ impl TileNode {
     fn load_at_once(&mut self, world: &World, access: &Access) -> bool
         requires { access.now.op ≡ Load }
         ensures when { result ≡ is_some (hold_of self.old.cache (line_at access.now.addr)) }
-        ensures does { DoesAtOnce result self.old self.new (accesses world.now self.old access.now) }
+        ensures does { StepsQuietly result self.old self.new (accesses world.now self.old access.now) }
     {
         let line = line_at(access.addr());
         let Some(old) = self.cache.read(line, place_of(access), access.size()) else {
@@ -136,7 +138,7 @@ impl TileNode {
     fn store_at_once(&mut self, world: &World, access: &Access) -> bool
         requires { access.now.op ≡ Store }
         ensures when { result ≡ is_m (hold_of self.old.cache (line_at access.now.addr)) }
-        ensures does { DoesAtOnce result self.old self.new (accesses world.now self.old access.now) }
+        ensures does { StepsQuietly result self.old self.new (accesses world.now self.old access.now) }
     {
         let line = line_at(access.addr());
         let done = finish(access, 0);

@@ -5,7 +5,7 @@ ghost use Rattle.std.specs.Option.{option_copied};
 ghost use Rattle.wire_msg.specs.Message.{may_send};
 ghost use Rattle.tile_cache.specs.Cache.{hold_of};
 ghost use Rattle.tile_core.specs.Core.{line_at, line_missed};
-ghost use Rattle.tile_node.specs.Tile.{is_write};
+ghost use Rattle.tile_node.specs.Tile.{access_want};
 ghost use Rattle.tile_node.specs.Deliver.{taken, data_taken, waiting_done, hold_suits, inv_taken, fetch_taken, return_taken, start_taken, limit_taken, onward, is_running, probe_taken, reply_taken};
 ghost use Rattle.tile_node.specs.Answers.{IsOf};
 ghost use Rattle.tile_node.specs.Inner.{Makes, MakesAlone};
@@ -20,7 +20,7 @@ use sim_base::{Action, Line, LineData, NoMemory, NodeId};
 use std::alloc::Global;
 use tile_cache::Hold;
 use tile_core::{Status, Write};
-use wire_msg::{Msg, Out};
+use wire_msg::{Msg, Out, Want};
 
 /// The line that a miss waits for: that of its access, or of a write's next byte.
 fn line_missed(write: &Write, access: Option<&Access>) -> Line
@@ -78,13 +78,11 @@ impl TileNode {
         ensures { Makes result self.old self.new out.old.items out.new.items (taken world.now self.old from msg.now) }
     {
         match msg {
-            Msg::GetS { line } => self.hear_request(alloc, world, from, *line, false, out),
-            Msg::GetM { line } => self.hear_request(alloc, world, from, *line, true, out),
-            Msg::PutM { line, content } => self.hear_gift(alloc, world, from, *line, content, out),
-            Msg::InvAck { line } => self.hear_ack(alloc, world, from, *line, out),
-            Msg::FetchAck { line, content } => {
-                self.hear_answer(alloc, world, from, *line, content, out)
-            }
+            Msg::GetS { .. }
+            | Msg::GetM { .. }
+            | Msg::PutM { .. }
+            | Msg::InvAck { .. }
+            | Msg::FetchAck { .. } => self.hear(alloc, world, from, msg, out),
             Msg::DataS {
                 line,
                 content,
@@ -96,8 +94,8 @@ impl TileNode {
                 delay,
             } => self.take_data(world, *line, Hold::M, content, *delay, out),
             Msg::Inv { line } => self.take_inv(from, *line, out),
-            Msg::Fetch { line } => self.take_fetch(from, *line, false, out),
-            Msg::FetchInv { line } => self.take_fetch(from, *line, true, out),
+            Msg::Fetch { line } => self.take_fetch(from, *line, Want::Read, out),
+            Msg::FetchInv { line } => self.take_fetch(from, *line, Want::Write, out),
             Msg::Return { value, time, limit } => {
                 Ok(self.take_return(world, *value, *time, *limit))
             }
@@ -155,7 +153,7 @@ impl TileNode {
         content: &LineData,
         delay: u64,
     ) -> Action
-        requires { is_write access.now.op ≡ true → hold_of self.old.cache (line_at access.now.addr) ≡ Some Hold.M }
+        requires { access_want access.now.op ≡ Want.Write → hold_of self.old.cache (line_at access.now.addr) ≡ Some Hold.M }
         ensures tile { self.new ≡ waiting_done world.now self.old self.old.cache (Some access.now) content.now delay }
         ensures action { result ≡ Action.Exec self.old.core.thread }
     {
@@ -199,15 +197,15 @@ impl TileNode {
         Ok(None)
     }
 
-    /// A line in M is handed back. For a reader it stays in S, for a writer it goes.
+    /// A line in M is handed over. For a reader it stays in S, for a writer it goes.
     fn take_fetch(
         &mut self,
         from: NodeId,
         line: Line,
-        write: bool,
+        want: Want,
         out: &mut Out,
     ) -> Result<Option<Action>, NoMemory>
-        ensures { Makes result self.old self.new out.old.items out.new.items (fetch_taken self.old from line write) }
+        ensures { Makes result self.old self.new out.old.items out.new.items (fetch_taken self.old from line want) }
     {
         let Some(way) = self.cache.get(line) else {
             return Ok(None);
@@ -217,7 +215,7 @@ impl TileNode {
         }
         let content = way.content;
         out.push((from, Msg::FetchAck { line, content }))?;
-        self.leave_m(line, write);
+        self.leave_m(line, want);
         Ok(None)
     }
 

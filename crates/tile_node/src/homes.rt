@@ -1,91 +1,55 @@
-//! What a tile makes of a message about a line whose home it is.
-
-ghost use Rattle.std.specs.Prelude.{◌≡◌, true};
-ghost use Rattle.wire_msg.specs.Message.{goes_home, asks, gives_up, acknowledges, answers};
-ghost use Rattle.tile_node.specs.Deliver.{home_does};
+//! The home's role of a tile: what it makes of what nodes tell it of the lines whose home it is.
+ghost use Rattle.std.specs.Prelude.{◌≡◌, true, IsSome};
+ghost use Rattle.wire_msg.specs.Message.{may_send, up_of};
+ghost use Rattle.tile_node.specs.Deliver.{taken};
 ghost use Rattle.tile_node.specs.Answers.{IsOf};
 ghost use Rattle.tile_node.specs.Inner.{Makes};
 
 use crate::tile::TileNode;
 use elf_image::World;
-use sim_base::{Action, Line, LineData, NoMemory, NodeId};
+use sim_base::{Action, NoMemory, NodeId};
 use std::alloc::Global;
-use wire_msg::Out;
+use wire_msg::{Msg, Out};
 
-/// The home's role of a tile: what it makes of what a node tells it of a line whose home it is.
-#[tactic(auto, using(crate::proofs::Facts::from_reader, crate::proofs::Facts::at_home))]
 impl TileNode {
-    /// A node asks for a line, to write it or only to read it.
-    pub(crate) fn hear_request(
+    /// A node tells it of a line as the line's home.
+    #[tactic(auto, using(crate::proofs::Facts::from_reader, crate::proofs::Facts::at_home))]
+    pub(crate) fn hear(
         &mut self,
         alloc: Global,
         world: &World,
         from: NodeId,
-        line: Line,
-        write: bool,
+        msg: &Msg,
         out: &mut Out,
     ) -> Result<Option<Action>, NoMemory>
         requires fits { IsOf world.now self.old }
-        requires sent { goes_home world.now.config line from self.old.number ≡ true }
-        ensures { Makes result self.old self.new out.old.items out.new.items (home_does world.now self.old from line (asks write)) }
+        requires sent { may_send world.now.config from self.old.number msg.now ≡ true }
+        requires told { IsSome (up_of msg.now) }
+        ensures { Makes result self.old self.new out.old.items out.new.items (taken world.now self.old from msg.now) }
     {
-        self.slice
-            .request(alloc, world.config(), from, line, write, out)?;
-        Ok(None)
-    }
-
-    /// A node gives up a line that it had in M.
-    pub(crate) fn hear_gift(
-        &mut self,
-        alloc: Global,
-        world: &World,
-        from: NodeId,
-        line: Line,
-        content: &LineData,
-        out: &mut Out,
-    ) -> Result<Option<Action>, NoMemory>
-        requires fits { IsOf world.now self.old }
-        requires sent { goes_home world.now.config line from self.old.number ≡ true }
-        ensures { Makes result self.old self.new out.old.items out.new.items (home_does world.now self.old from line (gives_up content.now)) }
-    {
-        self.slice
-            .put(alloc, world.config(), from, line, content, out)?;
-        Ok(None)
-    }
-
-    /// A node has dropped its copy of a line.
-    pub(crate) fn hear_ack(
-        &mut self,
-        alloc: Global,
-        world: &World,
-        from: NodeId,
-        line: Line,
-        out: &mut Out,
-    ) -> Result<Option<Action>, NoMemory>
-        requires fits { IsOf world.now self.old }
-        requires sent { goes_home world.now.config line from self.old.number ≡ true }
-        ensures { Makes result self.old self.new out.old.items out.new.items (home_does world.now self.old from line acknowledges) }
-    {
-        self.slice.ack(alloc, world.config(), from, line, out)?;
-        Ok(None)
-    }
-
-    /// A node answers a fetch of a line.
-    pub(crate) fn hear_answer(
-        &mut self,
-        alloc: Global,
-        world: &World,
-        from: NodeId,
-        line: Line,
-        content: &LineData,
-        out: &mut Out,
-    ) -> Result<Option<Action>, NoMemory>
-        requires fits { IsOf world.now self.old }
-        requires sent { goes_home world.now.config line from self.old.number ≡ true }
-        ensures { Makes result self.old self.new out.old.items out.new.items (home_does world.now self.old from line (answers content.now)) }
-    {
-        self.slice
-            .fetched(alloc, world.config(), from, line, content, out)?;
-        Ok(None)
+        let config = world.config();
+        match msg {
+            Msg::GetS { line } => {
+                self.slice.request(alloc, config, from, *line, false, out)?;
+                Ok(None)
+            }
+            Msg::GetM { line } => {
+                self.slice.request(alloc, config, from, *line, true, out)?;
+                Ok(None)
+            }
+            Msg::PutM { line, content } => {
+                self.slice.put(config, from, *line, content, out)?;
+                Ok(None)
+            }
+            Msg::InvAck { line } => {
+                self.slice.ack(config, from, *line, out)?;
+                Ok(None)
+            }
+            Msg::FetchAck { line, content } => {
+                self.slice.fetched(config, from, *line, content, out)?;
+                Ok(None)
+            }
+            _ => Ok(None),
+        }
     }
 }

@@ -1,7 +1,5 @@
-//! The laws of tiles: how each event shows at each line, and what a tile tells a line's home.
-
-ghost use Rattle.tile_node.specs.OneLine.{StepShows, DeliverShows, DownsHappen, OthersLeave, StepMayHappen, DeliverMayHappen, WantsOne, StepStaysTile, DeliverStaysTile, TilesStartEmpty};
-ghost use Rattle.tile_node.specs.OneLine.{ToldToHomes, ToldToReceivers, StepUpsAreTold, DeliverUpsAreTold, StepSaysNothingDown, DeliverSaysNothingDown, StepLeavesHomes, DeliverLeavesHomes, HomesHear, HomesSpeakOfLines};
+ghost use Rattle.tile_node.specs.OneLineLaws.{StepShows, DeliverShows, DownsHappen, OthersLeave, StepMayHappen, DeliverMayHappen, WantsOne, StepStaysTile, DeliverStaysTile, TilesStartEmpty};
+ghost use Rattle.tile_node.specs.OneLineLaws.{ToldToHomes, ToldToReceivers, StepUpsAreTold, DeliverUpsAreTold, StepSaysNothingDown, DeliverSaysNothingDown, StepLeavesHomes, DeliverLeavesHomes, HomesHear, HomesSpeakOfLines};
 
 /// A law: a step of a tile that can step shows at each line as what happens there: what its cache has of the line
 /// afterwards, what it tells of it, and what it waits for of it.

@@ -12,7 +12,7 @@ use elf_image::World;
 use rv_hart::Span;
 use sim_base::{Line, NoMemory};
 use tile_cache::Hold;
-use wire_msg::{Msg, Out};
+use wire_msg::{Msg, Out, Want};
 
 /// A reservation after a line left M, which ends one on it.
 pub(crate) fn unless_on(line: Line, reservation: Option<Span>) -> Option<Span>
@@ -74,13 +74,14 @@ impl TileNode {
     }
 
     /// A line leaves M: it goes for a writer, and stays in S for a reader.
-    pub(crate) fn leave_m(&mut self, line: Line, write: bool)
-        ensures { self.new ≡ fetched_tile self.old line write }
+    pub(crate) fn leave_m(&mut self, line: Line, want: Want)
+        ensures { self.new ≡ fetched_tile self.old line want }
     {
-        if write {
-            let _ = self.cache.drop_line(line);
-        } else {
-            self.cache.downgrade(line);
+        match want {
+            Want::Read => self.cache.downgrade(line),
+            Want::Write => {
+                let _ = self.cache.drop_line(line);
+            }
         }
         self.core.reservation = unless_on(line, self.core.reservation);
     }

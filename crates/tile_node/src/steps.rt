@@ -7,13 +7,13 @@ ghost use Rattle.tile_cache.specs.Cache.{hold_of, touched};
 ghost use Rattle.tile_core.specs.Core.{line_at, next_byte};
 ghost use Rattle.tile_core.specs.Gathering.{is_gathered};
 ghost use Rattle.tile_core.specs.Plan.{plan_of};
-ghost use Rattle.wire_msg.specs.Message.{asks};
-ghost use Rattle.tile_node.specs.Tile.{up_message, with_status, is_write, later, access_cost};
+ghost use Rattle.wire_msg.specs.declared.lines.Up.TheVariants.{Asks};
+ghost use Rattle.tile_node.specs.Tile.{up_message, with_status, later, access_cost};
 ghost use Rattle.tile_node.specs.Step.{is_writing, can_step, waits_for_limit, looks_around, reaches, probes, misses, sends_write, reads_byte, writes, accesses, does_locally, fails_conditional, exits, begins_write, traps, follows, works, tile_step};
 ghost use Rattle.tile_node.specs.Answers.{IsOf};
 ghost use Rattle.tile_node.specs.Inner.{IsKept, Makes, MakesAlone, after_hit};
 
-use crate::accesses::{access_cost, is_write, line_at, place_in_line, place_of, suits};
+use crate::accesses::{access_cost, access_want, line_at, place_in_line, place_of, suits};
 use crate::tile::TileNode;
 use elf_image::World;
 use rv_exec::{Access, AccessOp};
@@ -21,7 +21,7 @@ use sim_base::{Action, Cause, Config, Line, NoMemory, Policy};
 use std::alloc::Global;
 use tile_cache::Hold;
 use tile_core::{Plan, Status};
-use wire_msg::{Call, Msg, Out};
+use wire_msg::{Call, Msg, Out, Want};
 
 /// Whether a core reads the bytes of a write.
 fn is_writing(status: &Status) -> bool
@@ -46,14 +46,13 @@ pub(crate) fn looks_around(policy: Policy, tiles: u32, clock: u64, next_check: u
     matches!(policy, Policy::LaxP2p) && 1 < tiles && next_check <= clock
 }
 
-/// The request for a line, to write it or only to read it.
-fn request(line: Line, write: bool) -> Msg
-    ensures { result ≡ up_message line (asks write) }
+/// The request for a line.
+fn request(line: Line, want: Want) -> Msg
+    ensures { result ≡ up_message line (Asks want) }
 {
-    if write {
-        Msg::GetM { line }
-    } else {
-        Msg::GetS { line }
+    match want {
+        Want::Read => Msg::GetS { line },
+        Want::Write => Msg::GetM { line },
     }
 }
 
@@ -128,14 +127,14 @@ impl TileNode {
         &mut self,
         world: &World,
         line: Line,
-        write: bool,
+        want: Want,
         access: Option<Access>,
         out: &mut Out,
     ) -> Result<Option<Action>, NoMemory>
-        ensures { Makes result self.old self.new out.old.items out.new.items (misses world.now self.old line write access) }
+        ensures { Makes result self.old self.new out.old.items out.new.items (misses world.now self.old line want access) }
     {
         let home = world.config().home(line);
-        out.push((home, request(line, write)))?;
+        out.push((home, request(line, want)))?;
         self.core.status = Status::Miss { access };
         self.misses = self.misses.saturating_add(1);
         Ok(None)
@@ -193,7 +192,7 @@ impl TileNode {
         let addr = self.core.write.next_byte();
         let line = line_at(addr);
         let Some(way) = self.cache.get(line) else {
-            return self.miss(world, line, false, None, out);
+            return self.miss(world, line, Want::Read, None, out);
         };
         let byte = way.content.bytes[place_in_line(addr)];
         self.cache.touch(line);
@@ -314,10 +313,10 @@ impl TileNode {
         let line = line_at(access.addr());
         let op = access.op();
         let Some(way) = self.cache.get(line) else {
-            return self.miss(world, line, is_write(op), Some(access), out);
+            return self.miss(world, line, access_want(op), Some(access), out);
         };
         if !suits(op, way.hold) {
-            return self.miss(world, line, is_write(op), Some(access), out);
+            return self.miss(world, line, access_want(op), Some(access), out);
         }
         let old = way.content.load(place_of(&access), access.size());
         self.cache.touch(line);

@@ -1,7 +1,0 @@
--- The slice's answer is the tile's.
-use Rattle.wire_msg.specs.Message.{acknowledges}
-use Rattle.tile_node.proofs.Made.{home_makes}
-use Rattle.tile_node.proofs.tile.TileNode.hear_ack.Goals as goal
-
-pub returns : goal.returns
-returns c = home_makes c.args.world.now _ _ c.self.view_is c.args.from c.args.line acknowledges c.config.result.now c.config.ensures.value c.requires.fits.home c.ack.new.self _ _ c.in_ok-ack.ensures
