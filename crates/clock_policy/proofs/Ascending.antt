@@ -1,11 +1,11 @@
 -- The threads of active members are in ascending order, whoever joins or leaves, and these are they.
-use Rattle.std.proofs.Common.{◌≡◌, ℕ, ◌+◌, ◌<◌, ◌≤◌, ◌==◌, Bool, true, false, cond, not, List, [], ◌∷◌, map, filter, eqb, ltb, zero, suc, Some, refl, ap, sym, ◌∙◌, ⊎_elim, arith}
+use Rattle.std.proofs.Common.{◌≡◌, ℕ, ◌+◌, ◌<◌, ◌≤◌, ◌==◌, Bool, true, false, cond, List, [], ◌∷◌, map, filter, eqb, ltb, zero, suc, Some, refl, ap, sym, ◌∙◌, ⊎_elim, arith}
 use Rattle.std.specs.Prelude.{◌||◌}
 use Rattle.std.specs.List.{list_any, range_with_len}
 use Rattle.std.proofs.lemmas.Bool.{cases_Bool, cases_eq, eq-eqb, eqb-true, ne_eqb}
 use Rattle.std.proofs.lemmas.Bool.Decides.{nat_tests}
 use Rattle.clock_policy.specs.declared.members.Member.{Member}
-use Rattle.clock_policy.specs.Members.{Standing, nobody, some_unreached, all_reached, unreached, with_member, without_member, with_report, reported, renewed}
+use Rattle.clock_policy.specs.Members.{Standing, nobody, some_unreached, all_reached, with_member, without_member, with_report, reported, renewed}
 use Rattle.clock_policy.specs.Epoch.{Epoch, advanced_by}
 
 abbrev pub threads_of : List Member → List ℕ
@@ -139,14 +139,17 @@ ascending_same n m (x ∷ xs) (y ∷ ys) h k e =
     let below : y ≤ x = head_le m y ys x xs k (sym (e x) ∙ x_in) in
     let above : x ≤ y = head_le n x xs y ys h (e y ∙ y_in) in
     let same : x ≡ y = omega (arith, below, above) in
-    rw (same, ascending_same (x + 1) (y + 1) xs ys h.1 k.1 (λ t. ⊎_elim
-    (λ (at : t ≡ x). has_none_below t (x + 1) xs h.1 (omega (arith, at)) ∙ sym (has_none_below t (y + 1) ys k.1 (omega (arith, at, same))))
-    (λ (past : t ≡ x → ⊥).
-    let no : (x == t) ≡ false = ne_eqb x t (λ s. past (sym s)) in
-    let nor : (y == t) ≡ false = ne_eqb y t (λ s. past (sym (same ∙ s))) in
-    let whole : ((x == t) || has t xs) ≡ ((y == t) || has t ys) = e t in
-    rw (no, nor) at whole)
-    (cases_eq t x))) refl
+    rw (
+      same,
+      ascending_same (x + 1) (y + 1) xs ys h.1 k.1 (λ t. ⊎_elim
+          (λ (at : t ≡ x). has_none_below t (x + 1) xs h.1 (omega (arith, at)) ∙ sym (has_none_below t (y + 1) ys k.1 (omega (arith, at, same))))
+          (λ (past : t ≡ x → ⊥).
+          let no : (x == t) ≡ false = ne_eqb x t (λ s. past (sym s)) in
+          let nor : (y == t) ≡ false = ne_eqb y t (λ s. past (sym (same ∙ s))) in
+          let whole : ((x == t) || has t xs) ≡ ((y == t) || has t ys) = e t in
+          rw (no, nor) at whole)
+          (cases_eq t x)),
+    ) refl
 
 -- the numbers of a range that pass a test
 pub ascending_range : (p : ℕ → Bool) (a n : ℕ) → IsAscendingFrom a (filter p (range_with_len a n))

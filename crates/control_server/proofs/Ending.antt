@@ -1,5 +1,5 @@
 -- How a call ends: as the act that was made, or spent.
-use Rattle.std.proofs.Common.{◌≡◌, ℕ, ◌&&◌, ◌++◌, Bool, true, false, cond, List, [], ◌∷◌, Option, Some, None, is_some, Result, Ok, Err, IfOk, is_err, refl, ap, sym, ◌∙◌, subst, append-nil}
+use Rattle.std.proofs.Common.{◌≡◌, ℕ, ◌&&◌, ◌++◌, Bool, true, false, not, cond, List, [], ◌∷◌, Option, Some, None, is_some, Result, Ok, Err, IfOk, is_err, refl, ap, sym, ◌∙◌, subst, append-nil}
 use Rattle.std.proofs.lemmas.Option.{some_pair_parts}
 use Rattle.sim_base.specs.declared.actions.Action.{Action}
 use Rattle.sim_base.specs.declared.actions.Action.TheVariants.{Serve}
@@ -16,8 +16,9 @@ use Rattle.wire_msg.specs.Message.{may_send}
 use Rattle.serving.specs.declared.control_data.Request.{Request}
 use Rattle.serving.specs.declared.control_data.Request.TheVariants.{Call as CallRequest}
 use Rattle.control_server.specs.Control.{Control, Act, Waiting, Check, quiet, is_placed, IsOrderly, IsInOrder}
-use Rattle.control_server.specs.Serve.{serves, checks, begins, step_by, control_step}
+use Rattle.control_server.specs.Serve.{serves, checks, begins, step_by, control_step, none_waits}
 use Rattle.control_server.specs.Deliver.{admits, call_taken, data_taken, taken, taken_late, taken_by, control_delivered, Answers}
+use Rattle.control_server.specs.Laws.{EndStays}
 use Rattle.control_server.specs.Inner.{word_of, IsMade, IsDone}
 
 unspent : (c : Control) → c.spent ≡ false → record c { spent = false } ≡ c
@@ -133,3 +134,21 @@ served_done w c p q new before after same e h =
     let done : IsDone (serves w c p 0) new before after action = record { made = h; action = refl } in
     let there : IsDone (begins w c p p.request) new before after action = subst (λ act. IsDone act new before after action) (sym (begins_served w c p p.request e)) done in
     subst (λ r. IsDone (begins w c r r.request) new before after action) same there
+
+-- after the end the server stands still
+still_by : (w : Setup) (c : Control) (from : ℕ) (msg : Msg) (b : Bool) → is_some c.control.ended ≡ true → (cond b (taken_by w c from msg c.control.ended) (quiet c)).control ≡ c
+still_by w c from msg true ended = ap (λ act. act.control) (late_by w c from msg c.control.ended ended) ∙ late_control c from msg
+still_by w c from msg false ended = refl
+
+no_step_after : (waits checks ended : Bool) → ended ≡ true → (waits && (checks && not ended)) ≡ false
+no_step_after waits checks ended e = rw e (none waits checks) where
+  none : (a b : Bool) → (a && (b && false)) ≡ false
+  none true true = refl
+  none true false = refl
+  none false b = refl
+
+pub end_stays : EndStays
+end_stays w c ended = record {
+  no_step = no_step_after (not (none_waits c.backlog)) (not (is_some c.checking)) (is_some c.control.ended) ended;
+  no_change = λ from msg. still_by w c from msg (may_send w.config from (control_node w.config) msg) ended;
+}

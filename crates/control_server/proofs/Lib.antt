@@ -6,6 +6,7 @@ pub mod Active
 pub mod Parkings
 pub mod Moves
 pub mod Members
+pub mod Limits
 pub mod Settled
 pub mod Outcome
 pub mod Served

@@ -1,8 +1,6 @@
 -- The members of the epoch are the active threads, in ascending order, whatever is served.
-use Rattle.std.proofs.Common.{◌≡◌, ℕ, ◌+◌, ◌<◌, ◌≤◌, ◌==◌, Bool, true, false, List, [], ◌∷◌, length, map, Option, Some, None, refl, ap, sym, ◌∙◌, subst, ⊎_elim, arith}
-use Rattle.std.specs.Prelude.{◌||◌}
-use Rattle.std.specs.List.{list_any}
-use Rattle.std.proofs.lemmas.Bool.{cases_Bool, cases_eq, cases_lt, eq-eqb, eqb-true, eqb-false}
+use Rattle.std.proofs.Common.{◌≡◌, ℕ, ◌<◌, ◌≤◌, ◌==◌, Bool, true, false, List, [], ◌∷◌, length, Option, Some, None, refl, ap, sym, ◌∙◌, subst, ⊎_elim, arith}
+use Rattle.std.proofs.lemmas.Bool.{cases_Bool, cases_eq, cases_lt, eqb-true, eqb-false}
 use Rattle.serving.specs.ControlData.{ControlData}
 use Rattle.serving.specs.Serving.{Served, Woken, Born}
 use Rattle.clock_policy.specs.declared.members.Member.{Member}
@@ -10,7 +8,7 @@ use Rattle.clock_policy.specs.Members.{standing}
 use Rattle.clock_policy.specs.Epoch.{Epoch}
 use Rattle.clock_policy.proofs.Ascending.{threads_of, IsAscendingFrom, has, ascending_with, ascending_filter, ascending_same, ascending_range, has_with_same, has_with_other, has_without_same, has_without_other, has_range, has_range_past, threads_of-advanced}
 use Rattle.control_server.specs.Control.{is_active, active_threads}
-use Rattle.control_server.specs.Serve.{joined_by, left_by, join_all, join_born, leave_unless, epochs_served, epochs_closed}
+use Rattle.control_server.specs.Serve.{joined_by, join_all, join_born, leave_unless, epochs_served, epochs_closed}
 use Rattle.control_server.proofs.Active.{active_parts, live_lt}
 use Rattle.control_server.proofs.Moves.{Moves, is_woken, is_born}
 
@@ -116,16 +114,16 @@ served_members c caller made e h active m =
     record {
       ascend = leave_ascend stays caller more (born_ascend made.born all (joined_ascend made.woken e h.ascend));
       active = λ t. ⊎_elim
-      (λ (own : t ≡ caller). subst (λ n. has n (threads_of (leave_unless stays caller more).members) ≡ is_active made.control n) (sym own)
-      (leave_own caller stays more (born_stays caller made.born all (all_stay caller made.woken e (h.active caller ∙ active)))))
-      (λ (other : t ≡ caller → ⊥). leave_other t caller stays more other ∙ ⊎_elim
-      (λ (wakes : is_woken t made.woken ≡ true). born_stays t made.born all (woken_has t made.woken e wakes) ∙ sym (m.woken t wakes))
-      (λ (sleeps : is_woken t made.woken ≡ false). ⊎_elim
-      (λ (begins : is_born t made.born ≡ true). born_has t made.born all begins ∙ sym (m.born t begins))
-      (λ (unborn : is_born t made.born ≡ false). born_same t made.born all unborn ∙ woken_same t made.woken e sleeps ∙ h.active t ∙ sym (m.others t other sleeps unborn))
-      (cases_Bool (is_born t made.born)))
-      (cases_Bool (is_woken t made.woken)))
-      (cases_eq t caller);
+          (λ (own : t ≡ caller). subst (λ n. has n (threads_of (leave_unless stays caller more).members) ≡ is_active made.control n) (sym own)
+          (leave_own caller stays more (born_stays caller made.born all (all_stay caller made.woken e (h.active caller ∙ active)))))
+          (λ (other : t ≡ caller → ⊥). leave_other t caller stays more other ∙ ⊎_elim
+          (λ (wakes : is_woken t made.woken ≡ true). born_stays t made.born all (woken_has t made.woken e wakes) ∙ sym (m.woken t wakes))
+          (λ (sleeps : is_woken t made.woken ≡ false). ⊎_elim
+          (λ (begins : is_born t made.born ≡ true). born_has t made.born all begins ∙ sym (m.born t begins))
+          (λ (unborn : is_born t made.born ≡ false). born_same t made.born all unborn ∙ woken_same t made.woken e sleeps ∙ h.active t ∙ sym (m.others t other sleeps unborn))
+          (cases_Bool (is_born t made.born)))
+          (cases_Bool (is_woken t made.woken)))
+          (cases_eq t caller);
     }
 
 pub closed_threads : (closes : Bool) (e : Epoch) → threads_of (epochs_closed closes e).members ≡ threads_of e.members

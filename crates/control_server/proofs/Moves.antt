@@ -1,28 +1,25 @@
 -- Who is active once a request was served: those that are woken or born, and else those who were, but the caller, which may
 -- have been parked or have left.
-use Rattle.std.proofs.Common.{◌≡◌, ℕ, ◌+◌, ◌-◌, ◌%◌, ◌^◌, ◌<◌, ◌≤◌, ◌&&◌, ◌++◌, ◌==◌, Bool, true, false, not, cond, List, [], ◌∷◌, length, filter, find, map, count_by, slice_get, slice_set, Option, Some, None, is_some, nat_eq, zero, suc, refl, ap, sym, ◌∙◌, subst, ⊎_elim, arith}
+use Rattle.std.proofs.Common.{◌≡◌, ℕ, ◌+◌, ◌%◌, ◌<◌, ◌≤◌, ◌++◌, ◌==◌, Bool, true, false, not, cond, List, [], ◌∷◌, length, filter, map, count_by, slice_get, slice_set, Option, Some, None, is_some, nat_eq, zero, suc, refl, ap, sym, ◌∙◌, subst, ⊎_elim, arith}
 use Rattle.std.specs.Prelude.{◌||◌}
 use Rattle.std.specs.List.{list_any}
-use Rattle.std.specs.Option.{option_map}
 use Rattle.std.proofs.lemmas.Bool.{cases_Bool, cases_eq, eq-eqb, eqb-true, ne_eqb}
-use Rattle.std.proofs.lemmas.List.Folds.{list_any-append}
 use Rattle.std.proofs.lemmas.List.Sums.{sum_by-append}
 use Rattle.elf_image.specs.Layout.{Setup}
 use Rattle.wire_msg.specs.declared.calls.Call.TheVariants.{Spawn, Join as JoinCall, Write, FutexWait, FutexWake, Brk, ExitGroup}
 use Rattle.thread_table.specs.Threads.{is_live_at}
 use Rattle.serving.specs.declared.control_data.Fate.{Fate}
 use Rattle.serving.specs.declared.control_data.Fate.TheVariants.{Live, Exited}
-use Rattle.serving.specs.declared.control_data.Join.{Join}
 use Rattle.serving.specs.declared.control_data.Join.TheVariants.{Code, Parked, NoThread, Invalid}
 use Rattle.serving.specs.declared.control_data.Request.{Request}
 use Rattle.serving.specs.declared.control_data.Request.TheVariants.{Call, Exit, Trap}
 use Rattle.serving.specs.declared.control_data.Waiter.{Waiter}
 use Rattle.serving.specs.ControlData.{ControlData, is_live, is_waiting, is_joiner, is_joining}
-use Rattle.serving.specs.Join.{join_by, join_of, fates_joined, fates_exited, joiner_by, joiner_of}
-use Rattle.serving.specs.Wake.{waits_at, longest_at, without_thread, listed, woken, still_parked}
-use Rattle.serving.specs.Serving.{Served, Woken, Born, woken_with, answered, parked, born, joined, join_own, is_full, joiner_woken, with_end, request_served, serve}
+use Rattle.serving.specs.Join.{join_by, fates_exited, joiner_of}
+use Rattle.serving.specs.Wake.{longest_at, without_thread, listed, woken, still_parked}
+use Rattle.serving.specs.Serving.{Served, Woken, Born, woken_with, answered, parked, born, joined, is_full, joiner_woken, request_served, serve}
 use Rattle.control_server.specs.Control.{is_active, parkings, AreParkedOnce}
-use Rattle.control_server.proofs.Active.{IsActive, active_parts}
+use Rattle.control_server.proofs.Active.{IsActive}
 use Rattle.control_server.proofs.Parkings.{IsAsBefore, active_as_before, active_unparked, unparked, once_parked, still_once, once_unparked, once_live, none_counted, none_passes, some_counted, count_cons, count_set, any_set, live_set}
 
 abbrev count_if : Bool → ℕ
@@ -134,9 +131,9 @@ moves_set c caller target old new made once active here lives joins mine e w b =
     let same : count_if (is_joiner t old) ≡ count_if (is_joiner t new) = ap count_if (joins t other) in
     omega (arith, count, same)))
     (cases_eq t caller))) w b (λ t other. subst (λ x. IsAsBefore c x t) (sym e) (record { live = live t; waits = refl; joins = any_set (is_joiner t) c.fates target old new here (joins t other) })) where
-  at_most_one : (z : Bool) → cond z 1 0 ≤ 1
-  at_most_one true = omega arith
-  at_most_one false = omega arith
+      at_most_one : (z : Bool) → cond z 1 0 ≤ 1
+      at_most_one true = omega arith
+      at_most_one false = omega arith
 
 moves_join_by : (c : ControlData) (caller target : ℕ) (o : Option Fate) → AreParkedOnce c → IsActive c caller → slice_get c.fates target ≡ o → Moves c caller (joined c caller target (join_by caller target o))
 moves_join_by c caller target None once active e = moves_none c caller (joined c caller target NoThread) once refl refl refl refl
@@ -201,9 +198,9 @@ found_waits addr u (w ∷ ws) e = ⊎_elim
     (λ (here : (w.addr == addr) ≡ true). let at : Some w.thread ≡ Some u = rw here at e in let same : w.thread ≡ u = cc in rw (eq-eqb w.thread u same) refl)
     (λ (past : (w.addr == addr) ≡ false). rw (found_waits addr u ws (rw past at e)) (or_true (w.thread == u)))
     (cases_Bool (w.addr == addr)) where
-  or_true : (b : Bool) → (b || true) ≡ true
-  or_true true = refl
-  or_true false = refl
+      or_true : (b : Bool) → (b || true) ≡ true
+      or_true true = refl
+      or_true false = refl
 
 waiting_same : (t : ℕ) (a b : List Waiter) → waits_in t a ≡ waits_in t b → is_waiting a t ≡ is_waiting b t
 waiting_same t a b e = ⊎_elim
@@ -325,11 +322,11 @@ moves_exit c caller code made d once active f p e ws b =
     let elsewhere : (t : ℕ) → (t ≡ caller → ⊥) → is_live_at d.fates t ≡ is_live_at c.fates t = λ t other. ap (λ fs. is_live_at fs t) f ∙ live_elsewhere c.fates caller t new other in
     record {
       parked = subst AreParkedOnce (sym e) (λ t. ⊎_elim
-      (λ (own : t ≡ caller).
-      let none : parkings c t ≡ 0 = ap (parkings c) own ∙ unparked c caller active in
-      once_unparked d t (omega (arith, none, words t, joins t)))
-      (λ (other : t ≡ caller → ⊥). still_once c d t once (elsewhere t other) (omega (arith, words t, joins t)))
-      (cases_eq t caller));
+          (λ (own : t ≡ caller).
+          let none : parkings c t ≡ 0 = ap (parkings c) own ∙ unparked c caller active in
+          once_unparked d t (omega (arith, none, words t, joins t)))
+          (λ (other : t ≡ caller → ⊥). still_once c d t once (elsewhere t other) (omega (arith, words t, joins t)))
+          (cases_eq t caller));
       woken = λ t g.
           let joining : is_joiner t old ≡ true = sym (one t) ∙ g in
           let some : 0 < count_by (is_joiner t) c.fates = some_counted (is_joiner t) c.fates (any_at t caller old c.fates there.1 joining) in

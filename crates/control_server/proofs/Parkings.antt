@@ -1,17 +1,15 @@
 -- In how many places threads are parked, and who is active, once control data have changed.
-use Rattle.std.proofs.Common.{◌≡◌, ℕ, ◌+◌, ◌<◌, ◌≤◌, ◌&&◌, ◌++◌, ◌==◌, Bool, true, false, not, cond, List, [], ◌∷◌, length, filter, map, count_by, slice_get, slice_set, Option, Some, None, nat_eq, zero, suc, refl, ap, sym, ◌∙◌, subst, ⊎_elim, arith}
+use Rattle.std.proofs.Common.{◌≡◌, ℕ, ◌+◌, ◌<◌, ◌≤◌, ◌==◌, Bool, true, false, cond, List, [], ◌∷◌, count_by, slice_get, slice_set, Some, zero, suc, refl, ap, sym, ◌∙◌, ⊎_elim, arith}
 use Rattle.std.specs.Prelude.{◌||◌}
 use Rattle.std.specs.List.{list_any}
-use Rattle.std.proofs.lemmas.Bool.{cases_Bool, cases_eq, eq-eqb, eqb-true, ne_eqb}
-use Rattle.std.proofs.lemmas.List.Folds.{list_any-append}
-use Rattle.std.proofs.lemmas.List.Sums.{sum_by-cons, sum_by-append}
+use Rattle.std.proofs.lemmas.Bool.{cases_Bool}
+use Rattle.std.proofs.lemmas.List.Sums.{sum_by-cons}
 use Rattle.thread_table.specs.Threads.{is_live_at}
 use Rattle.serving.specs.declared.control_data.Fate.{Fate}
-use Rattle.serving.specs.declared.control_data.Fate.TheVariants.{Live, Exited}
 use Rattle.serving.specs.declared.control_data.Waiter.{Waiter}
 use Rattle.serving.specs.ControlData.{ControlData, is_live, is_waiting, is_joiner, is_joining}
 use Rattle.control_server.specs.Control.{is_active, parkings, AreParkedOnce}
-use Rattle.control_server.proofs.Active.{IsActive, active_parts, active_from}
+use Rattle.control_server.proofs.Active.{IsActive, active_from}
 
 -- counts and tests
 

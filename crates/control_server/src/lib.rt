@@ -4,6 +4,8 @@
 
 mod control;
 mod hosts;
+mod laws;
 mod requests;
 
 pub use control::Control;
+pub use laws::{end_stays, limits_go_out_in_order};

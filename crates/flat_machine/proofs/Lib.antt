@@ -8,5 +8,6 @@ pub mod ServingLemmas
 pub mod LegalLemmas
 pub mod WakeLemmas
 pub mod ActLemmas
+pub mod ActsLemmas
 pub mod MappedLemmas
 pub mod TrapLemmas

@@ -6,6 +6,7 @@ pub mod Reservation
 pub mod Action
 pub mod Serving
 pub mod Run
+pub mod Acts
 pub mod Gives
 pub mod Inner
 pub use Rattle.elf_image.specs.Image

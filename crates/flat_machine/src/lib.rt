@@ -11,7 +11,7 @@ mod reservations;
 mod runner;
 mod threads;
 
-pub use laws::{mapped_stays, one_legal_action, trap_has_cause};
+pub use laws::{end_stays, mapped_stays, one_legal_action, run_is_of_actions, trap_has_cause};
 pub use machine::{ActFault, Flat};
 pub use regions::Memory;
 pub use runner::run;
