@@ -5,6 +5,7 @@ mod faults;
 mod file;
 mod forms;
 mod keys;
+mod matched;
 mod matching;
 mod numbers;
 mod request;

@@ -1,7 +1,8 @@
+//! The rules of the words after a command, tested before clap sees them, without taking memory.
 ghost use Rattle.std.specs.Prelude.{◌≡◌, ◌∷◌, ℕ, List, None, true, false, is_some, option_copied, option_map};
 ghost use Rattle.std.specs.List.{list_any, position};
-ghost use Rattle.sim_config.specs.Words.{CommandForm, is_equals_sign, is_plain, is_use_of, has_name, may_stand, name_and_value, option_of, values, values_in};
-ghost use Rattle.sim_config.specs.Inner.{form_of, goes_on, may_go_on, names_of};
+ghost use Rattle.sim_config.specs.Words.{CommandForm, is_equals_sign, is_plain, is_use_of, has_name, name_and_value, dashed_name, uses_from, uses_in, with_option};
+ghost use Rattle.sim_config.specs.Inner.{lent_form, goes_on, may_go_on, names_of};
 
 use crate::forms::Form;
 use sim_base::Text;
@@ -16,11 +17,11 @@ pub(crate) struct Reading<'a> {
 }
 
 /// Whether the words after a command keep the rules: each is a positional, an option `--name` with its value in the next
-/// word, or `--name=value`; there are no more positionals than the form has; each option is one of the form's and stands
-/// once. A positional or a value in a word of its own isn't empty and doesn't begin with a dash; a value after `=` isn't
-/// empty. This simulator's own rules.
+/// word, or `--name=value`, or a flag `--name`; there are no more positionals than the form has; each option and each flag
+/// is one of the form's and stands once. A positional or a value in a word of its own isn't empty and doesn't begin with a
+/// dash; a value after `=` isn't empty. This simulator's own rules.
 pub(crate) fn keeps_rules(form: &Form, words: &[Text]) -> bool
-    ensures { result ≡ is_some (values_in (form_of form.now) words.now) }
+    ensures { result ≡ is_some (uses_in (lent_form form.now) words.now) }
 {
     let mut reading = Reading {
         left: form.positionals,
@@ -43,12 +44,12 @@ fn after_word<'a>(
     word: &'a [u8],
     later: &[Text],
 ) -> Option<Reading<'a>>
-    ensures { goes_on (form_of form.now) reading.now (word.now ∷ later.now) ≡ may_go_on (form_of form.now) result later.now }
+    ensures { goes_on (lent_form form.now) reading.now (word.now ∷ later.now) ≡ may_go_on (lent_form form.now) result later.now }
 {
     if is_plain(word) {
         after_plain(reading)
     } else if reading.awaited.is_none() {
-        after_option(form, reading.left, word, later)
+        after_dashed(form, reading.left, word, later)
     } else {
         None
     }
@@ -73,20 +74,42 @@ fn after_plain<'a>(reading: &Reading<'a>) -> Option<Reading<'a>>
 }
 
 /// The place after a word that begins with a dash.
-fn after_option<'a>(
+fn after_dashed<'a>(
     form: &Form,
     left: &'static [&'static str],
     word: &'a [u8],
     later: &[Text],
 ) -> Option<Reading<'a>>
     requires { is_plain word.now ≡ false }
-    ensures { is_some (values (form_of form.now) (names_of left.now) None (word.now ∷ later.now))
-        ≡ may_go_on (form_of form.now) result later.now }
+    ensures { is_some (uses_from (lent_form form.now) (names_of left.now) None (word.now ∷ later.now))
+        ≡ may_go_on (lent_form form.now) result later.now }
 {
-    let (name, value) = option_of(word)?;
-    if !may_stand(form, name, later) {
+    let (name, value) = dashed_name(word)?;
+    if is_used(name, later) {
         return None;
     }
+    if has_name(form.options, name) {
+        after_option(left, name, value)
+    } else if has_name(form.flags, name) && value.is_none() {
+        Some(Reading {
+            left,
+            awaited: None,
+        })
+    } else {
+        None
+    }
+}
+
+/// The place after an option, with the value that stands in its word.
+fn after_option<'a>(
+    left: &'static [&'static str],
+    name: &'a [u8],
+    value: Option<&[u8]>,
+) -> Option<Reading<'a>>
+    ensures { (form : CommandForm) (words : List (List ℕ))
+        → is_some (with_option name.now (option_copied value.entry) (λ awaited. uses_from form (names_of left.now) awaited words))
+        ≡ may_go_on form result words }
+{
     match value {
         None => Some(Reading {
             left,
@@ -100,14 +123,7 @@ fn after_option<'a>(
     }
 }
 
-/// Whether the form has an option of this name, and no later word uses it again.
-fn may_stand(form: &Form, name: &[u8], later: &[Text]) -> bool
-    ensures { result ≡ may_stand (form_of form.now) later.now name.now }
-{
-    has_name(form.options, name) && !is_used(name, later)
-}
-
-/// Whether some word uses the option of this name.
+/// Whether some word uses the option or the flag of this name.
 fn is_used(name: &[u8], words: &[Text]) -> bool
     ensures { result ≡ list_any (is_use_of name.now) words.now }
 {
@@ -123,19 +139,19 @@ fn has_name(names: &[&str], name: &[u8]) -> bool
     names.iter().any(|other| other.as_bytes() == name)
 }
 
-/// Whether a word uses the option of this name.
+/// Whether a word uses the option or the flag of this name.
 fn is_use_of(name: &[u8], word: &[u8]) -> bool
     ensures { result ≡ is_use_of name.now word.now }
 {
-    match option_of(word) {
+    match dashed_name(word) {
         Some((other, _)) => other == name,
         None => false,
     }
 }
 
 /// The name in a word `--name`, or the name and the value in `--name=value`.
-fn option_of(word: &[u8]) -> Option<(&[u8], Option<&[u8]>)>
-    ensures { option_map (λ option. (option.0.now, option_copied option.1)) result ≡ option_of word.now }
+fn dashed_name(word: &[u8]) -> Option<(&[u8], Option<&[u8]>)>
+    ensures { option_map (λ dashed. (dashed.0.now, option_copied dashed.1)) result ≡ dashed_name word.now }
 {
     match word {
         [b'-', b'-', text @ ..] => Some(name_and_value(text)),

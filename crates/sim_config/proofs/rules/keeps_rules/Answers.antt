@@ -1,12 +1,12 @@
 -- A word that may stand leads to a place from which the rest goes on.
 use Rattle.std.proofs.Common.{◌≡◌, ◌+◌, ◌-◌, ◌∙◌, ap, drop, take, length, rules, slice_index_or}
-use Rattle.sim_config.specs.Inner.{form_of, may_go_on}
+use Rattle.sim_config.specs.Inner.{lent_form, may_go_on}
 use Rattle.sim_config.proofs.Cuts.{goes_on-next}
 use Rattle.sim_config.proofs.rules.keeps_rules.Goals as goal
 
 pub loop-at-preserved : goal.loop-at-preserved
 loop-at-preserved c =
-    let form = form_of c.args.form.now in
+    let form = lent_form c.args.form.now in
     let words = c.args.words.now in
     let at = c.loop-at.at in
     let later = take (length words - (at + 1)) (drop (at + 1) words) in
