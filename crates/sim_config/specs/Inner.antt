@@ -1,5 +1,5 @@
 -- What only private functions' clauses cite: the code's state between two words, and what clap makes of a form.
-use Rattle.std.specs.Prelude.{◌≡◌, ℕ, ◌+◌, ◌&&◌, Bool, true, false, not, List, [], ◌∷◌, ◌++◌, map, min, if◌then◌else◌, Option, Some, None, is_some, String, Result, Ok, Err, codes}
+use Rattle.std.specs.Prelude.{◌≡◌, ℕ, ◌+◌, ◌&&◌, Bool, true, false, not, List, [], ◌∷◌, ◌++◌, map, min, if◌then◌else◌, Option, Some, None, option_and_then, String, Result, Ok, Err, codes}
 use Rattle.std.specs.Str.{bytes_eq}
 use Rattle.std.specs.Option.{option_map_or, option_copied}
 use Rattle.std.specs.Borrow.{Bor}
@@ -22,7 +22,9 @@ use Rattle.sim_config.specs.declared.faults.RequestFault.{RequestFault}
 use Rattle.sim_config.specs.declared.faults.RequestFault.TheVariants.{Usage, NoMemory}
 use Rattle.sim_config.specs.declared.forms.Form.{Form}
 use Rattle.sim_config.specs.declared.rules.Reading.{Reading}
-use Rattle.sim_config.specs.Words.{CommandForm, Given, has_name, uses_from}
+use Rattle.sim_config.specs.declared.rules.Turn.{Turn}
+use Rattle.sim_config.specs.declared.rules.Use.{Use}
+use Rattle.sim_config.specs.Words.{CommandForm, Given, Uses, has_name, use_of, uses_from, with_use}
 
 -- The words after a command
 
@@ -38,13 +40,31 @@ lent_form form = record {
   flags = names_of form.flags.now;
 }
 
--- from a place between two words, these words keep the rules
-abbrev pub goes_on : CommandForm → Reading → List (List ℕ) → Bool
-goes_on form place words = is_some (uses_from form (names_of place.left.now) (option_copied place.awaited) words)
+-- what words use from a place between two words on
+abbrev pub uses_at : CommandForm → Reading → List (List ℕ) → Option Uses
+uses_at form place words = uses_from form (names_of place.left.now) (option_copied place.awaited) words
 
--- the same, where there is a place
-abbrev pub may_go_on : CommandForm → Option Reading → List (List ℕ) → Bool
-may_go_on form place words = option_map_or (λ p. goes_on form p words) place false
+-- a use, out of the words that the code lends
+abbrev pub lent_use : Use → List ℕ × Option (List ℕ)
+lent_use used = (used.name.now, option_copied used.value)
+
+-- what is used with a word has this name
+abbrev pub is_of_name : List ℕ → Option Use → Bool
+is_of_name name used = option_map_or (λ u. bytes_eq u.name.now name) used false
+
+-- what is used with a word, before what later words use
+abbrev pub with_used : Option Use → Option Uses → Option Uses
+with_used None more = more
+with_used (Some used) more = with_use used.name.now (option_copied used.value) more
+
+-- what a word and those after it use, by what it does, if it may stand
+abbrev pub uses_after : CommandForm → Option Turn → List (List ℕ) → Option Uses
+uses_after form None words = None
+uses_after form (Some turn) words = with_used turn.used (uses_at form turn.next words)
+
+-- the first use of a name, where words keep the rules
+abbrev pub first_use_of : List ℕ → Option Uses → Option (List ℕ × Option (List ℕ))
+first_use_of name uses = option_and_then (use_of name) uses
 
 -- What clap makes of a form
 
