@@ -1,7 +1,9 @@
 pub mod Arguments
 pub mod Cuts
+pub mod Ends
 pub mod Names
 pub mod Numerals
 pub mod Requests
 pub mod Settings
+pub mod Taken
 pub mod Walks

@@ -1,7 +1,8 @@
 -- Names among names.
-use Rattle.std.proofs.Common.{◌≡◌, ℕ, true, false, List, [], ◌∷◌, refl, sym, ap, ◌∙◌, inl, inr}
+use Rattle.std.proofs.Common.{◌≡◌, ℕ, true, false, List, [], ◌∷◌, ◌++◌, refl, sym, ap, ◌∙◌, inl, inr}
 use Rattle.std.specs.Str.{bytes_eq}
-use Rattle.std.proofs.lemmas.Bool.{cases_Bool, and_parts, not-true, true≢false}
+use Rattle.std.proofs.lemmas.Bool.{cases_Bool, and_parts, not-true, or_parts, true≢false}
+use Rattle.std.proofs.lemmas.List.Folds.{list_any-append}
 use Rattle.std.proofs.lemmas.Slice.Eq.{bytes_eq-Decides}
 use Rattle.sim_config.specs.Words.{has_name}
 use Rattle.sim_config.specs.Inner.{are_apart}
@@ -26,6 +27,10 @@ other_name_too names a b lacks has = elim (cases_Bool (bytes_eq a b)) [
   | inl same ↦ absurd (true≢false (sym has ∙ (ap (has_name names) (sym (one_name a b same)) ∙ lacks)))
   | inr other ↦ other
 ]
+
+-- a name that is not among names is among no part of them
+pub lacks_right : (names others : List (List ℕ)) (name : List ℕ) → has_name (names ++ others) name ≡ false → has_name others name ≡ false
+lacks_right names others name lacks = (or_parts (has_name names name) (has_name others name) (sym (list_any-append (λ other. bytes_eq other name) names others) ∙ lacks)).1
 
 -- names that stand apart from others have none of those
 pub apart_from : (names others : List (List ℕ)) → are_apart names others ≡ true → (name : List ℕ) → has_name others name ≡ true → has_name names name ≡ false

@@ -1,14 +1,13 @@
--- Values that are there, and commands that mean nothing.
-use Rattle.std.proofs.Common.{◌≡◌, ℕ, true, false, List, Option, Some, None, refl, is_some, codes}
-use Rattle.std.specs.Str.{bytes_eq}
-use Rattle.sim_config.specs.Words.{Given, command_meaning}
+-- Uses that are there, and forms that clap takes.
+use Rattle.std.proofs.Common.{◌≡◌, true, Option, Some, None, refl, sym, subst, is_some}
+use Rattle.sim_config.specs.Words.{CommandForm, Uses}
+use Rattle.sim_config.specs.Inner.{IsTakenByClap}
 
--- values that are there
-pub some_given : (o : Option Given) → is_some o ≡ true → (given : Given) × (o ≡ Some given)
-some_given None e = cc
-some_given (Some given) e = (given, refl)
+-- uses that are there
+pub some_uses : (o : Option Uses) → is_some o ≡ true → (uses : Uses) × (o ≡ Some uses)
+some_uses None e = cc
+some_uses (Some uses) e = (uses, refl)
 
--- another command means nothing
-pub other_command : (command : List ℕ) (words : List (List ℕ)) → bytes_eq command (codes "run") ≡ false → bytes_eq command (codes "replay") ≡ false
-    → bytes_eq command (codes "gen") ≡ false → bytes_eq command (codes "bench") ≡ false → command_meaning command words ≡ None
-other_command command words no_run no_replay no_gen no_bench = rw (no_run, no_replay, no_gen, no_bench) refl
+-- a form that is another's is taken where that one is
+pub taken_form : (lent form : CommandForm) → lent ≡ form → IsTakenByClap form → IsTakenByClap lent
+taken_form lent form is taken = subst IsTakenByClap (sym is) taken

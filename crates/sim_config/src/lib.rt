@@ -5,6 +5,8 @@ mod faults;
 mod file;
 mod forms;
 mod keys;
+mod lookups;
+mod matched;
 mod matching;
 mod numbers;
 mod request;

@@ -1,13 +1,12 @@
-//! What clap finds in the words of a command.
-
+//! What clap finds in words that keep the rules.
 ghost use Rattle.std.specs.Prelude.{◌≡◌, Some, IfOk, IfErr, map, true, is_some};
 ghost use Rattle.clap.specs.Words.{app_of, kind_of, new_rule};
 ghost use Rattle.clap.specs.declared.error.kind.ErrorKind.TheVariants.{OutOfMemory};
-ghost use Rattle.sim_config.specs.Words.{Given, values_in};
-ghost use Rattle.sim_config.specs.Inner.{form_of, names_of, with_rules, option_rule, app_of_form, Finds, IsTakenByClap};
+ghost use Rattle.sim_config.specs.Words.{Given, given_in, uses_in};
+ghost use Rattle.sim_config.specs.Inner.{lent_form, names_of, with_rules, option_rule, flag_rule, app_of_form, given_found, IsTakenByClap};
 
 use crate::forms::Form;
-use clap::{Arg, ArgMatches, Command, Error};
+use clap::{Arg, ArgAction, ArgMatches, Command, Error};
 use sim_base::Text;
 use std::alloc::{AllocError, Global};
 
@@ -17,25 +16,25 @@ pub(crate) fn matches_of<'a>(
     form: &Form,
     words: &'a [Text],
 ) -> Result<ArgMatches<'a>, Error>
-    requires form { IsTakenByClap (form_of form.now) }
-    requires rules { is_some (values_in (form_of form.now) words.now) ≡ true }
-    ensures values { (given : Given) → values_in (form_of form.now) words.now ≡ Some given
-        → IfOk result (λ matches. Finds matches given) }
+    requires form { IsTakenByClap (lent_form form.now) }
+    requires rules { is_some (uses_in (lent_form form.now) words.now) ≡ true }
+    ensures given { IfOk result (λ matches. given_in (lent_form form.now) words.now ≡ Some (given_found (lent_form form.now) matches)) }
     ensures memory { IfErr result (λ error. kind_of error ≡ OutOfMemory) }
 {
     let command = command_of(alloc, form)?;
     command.try_get_matches_from(words)
 }
 
-/// The command of a form: each positional is found by its name, and each option too.
+/// The command of a form: each positional is found by its name, and each option and each flag too.
 fn command_of<'a>(alloc: Global, form: &Form) -> Result<Command<'a>, AllocError>
-    ensures { IfOk result (λ command. app_of command ≡ app_of_form (form_of form.now)) }
+    ensures { IfOk result (λ command. app_of command ≡ app_of_form (lent_form form.now)) }
 {
     let command = Command::new(alloc, "tilesim")
         .no_binary_name(true)
         .disable_help_flag(true);
     let command = with_positionals(alloc, command, form.positionals)?;
-    with_options(alloc, command, form.options)
+    let command = with_options(alloc, command, form.options)?;
+    with_flags(alloc, command, form.flags)
 }
 
 /// The command with positionals more.
@@ -64,6 +63,21 @@ fn with_options<'a>(
     let mut command = command;
     for name in names {
         command = command.arg(Arg::new(alloc, name).long(name))?;
+    }
+    Ok(command)
+}
+
+/// The command with flags more, each of which has the value `true` where it stands.
+fn with_flags<'a>(
+    alloc: Global,
+    command: Command<'a>,
+    names: &'static [&'static str],
+) -> Result<Command<'a>, AllocError>
+    ensures { IfOk result (λ more. app_of more ≡ with_rules (app_of command.entry) (map flag_rule (names_of names.now))) }
+{
+    let mut command = command;
+    for name in names {
+        command = command.arg(Arg::new(alloc, name).long(name).action(ArgAction::SetTrue))?;
     }
     Ok(command)
 }

@@ -1,9 +1,20 @@
-//! What a request names and asks for: the files that are read and written, the seed, the workload.
+//! The commands, the requests that they make, and what a request names: the files that are read and written, the seed, the
+//! workload.
 ghost use Rattle.std.specs.Prelude.{◌≡◌, option_copied};
 ghost use Rattle.sim_base.specs.Settings.{IsChecked};
-ghost use Rattle.sim_config.specs.Request.{config_name, image_name, journal_name, replayed_name, seed_of, settings_unnamed, workload_name, workload_of};
+ghost use Rattle.sim_config.specs.Request.{TellsRequest, command_of, config_name, form_of, image_name, journal_name, replayed_name, request_of, seed_of, settings_unnamed, workload_name, workload_of};
+ghost use Rattle.sim_config.specs.Inner.{IsTakenByClap, given_found, lent_form};
 
+mod bench;
+mod generate;
+mod replay;
+mod run;
+
+use crate::faults::RequestFault;
+use crate::forms::Form;
+use clap::ArgMatches;
 use sim_base::{Config, Kind, Text};
+use std::alloc::Global;
 
 /// How many tiles `bench` runs a workload on.
 const BENCH_TILES: u32 = 16;
@@ -36,6 +47,63 @@ pub enum Request {
     Bench {
         seed: u64,
     },
+}
+
+/// What the first word asks for.
+#[derive(Clone, Copy, Drop)]
+pub(crate) enum Command {
+    Run,
+    Replay,
+    Gen,
+    Bench,
+}
+
+impl Command {
+    /// The command of a name.
+    pub(crate) fn of_name(name: &str) -> Option<Command>
+        ensures { result ≡ command_of name.now }
+    {
+        if name == "run" {
+            Some(Command::Run)
+        } else if name == "replay" {
+            Some(Command::Replay)
+        } else if name == "gen" {
+            Some(Command::Gen)
+        } else if name == "bench" {
+            Some(Command::Bench)
+        } else {
+            None
+        }
+    }
+
+    /// The form of the words after the command.
+    pub(crate) fn form(self) -> Form
+        ensures form { lent_form result ≡ form_of self }
+        ensures taken { IsTakenByClap (form_of self) }
+    {
+        match self {
+            Command::Run => run::form(),
+            Command::Replay => replay::form(),
+            Command::Gen => generate::form(),
+            Command::Bench => bench::form(),
+        }
+    }
+
+    /// The request that the command makes of what clap finds.
+    pub(crate) fn read(
+        self,
+        alloc: Global,
+        matches: &ArgMatches<'_>,
+    ) -> Result<Request, RequestFault>
+        ensures { TellsRequest result (request_of self (given_found (form_of self) matches.now)) }
+    {
+        match self {
+            Command::Run => run::read(alloc, matches),
+            Command::Replay => replay::read(alloc, matches),
+            Command::Gen => generate::read(alloc, matches),
+            Command::Bench => bench::read(matches),
+        }
+    }
 }
 
 impl Request {
