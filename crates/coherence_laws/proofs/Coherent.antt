@@ -4,6 +4,8 @@ use Rattle.std.proofs.lemmas.Bool.{cases_Bool, cond-true}
 use Rattle.std.specs.Prelude.{Option, ◌⊎◌}
 use Rattle.std.specs.List.{filter_map}
 use Rattle.sim_base.specs.declared.lines.LineData.{LineData}
+use Rattle.wire_msg.specs.declared.lines.Want.{Want}
+use Rattle.wire_msg.specs.declared.lines.Want.TheVariants.{Read, Write}
 use Rattle.wire_msg.specs.Message.{gives, drops, Down}
 use Rattle.tile_cache.specs.Copy.{absent}
 use Rattle.node_set.specs.NodeSet.{has_node}
@@ -30,15 +32,15 @@ hidden_asking quiet = refl
 hidden_asking (on_way w) = refl
 hidden_asking (at_home w) = refl
 
-hidden_behind : (q : Option Bool) → filter_map in_up (behind q) ≡ []
+hidden_behind : (q : Option Want) → filter_map in_up (behind q) ≡ []
 hidden_behind None = refl
 hidden_behind (Some w) = refl
 
-hidden_fetch : (st : Option Bool) → filter_map in_down (fetch_there st) ≡ []
+hidden_fetch : (st : Option Want) → filter_map in_down (fetch_there st) ≡ []
 hidden_fetch None = refl
 hidden_fetch (Some w) = refl
 
-hidden_front : (st : Option Bool) (ds : List Down) → filter_map in_down (fetch_there st ++ ds) ≡ filter_map in_down ds
+hidden_front : (st : Option Want) (ds : List Down) → filter_map in_down (fetch_there st ++ ds) ≡ filter_map in_down ds
 hidden_front None ds = refl
 hidden_front (Some w) ds = refl
 
@@ -48,14 +50,14 @@ joined a b c a' b' c' e f g = cc
 phase_carries : (v : LineData) (p : Phase) → carried (part_in v p) ≡ carried_by (standing_of p) v
 phase_carries v (away st q) = joined _ _ _ [] [] [] refl (hidden_asking q) (hidden_fetch st)
 phase_carries v (shares st h q) = joined _ _ _ [] [] [] (hidden_copy v h) (hidden_asking q) (hidden_fetch st)
-phase_carries v (reads st h) = joined _ _ _ [] [] [] (hidden_copy v h) refl (hidden_front st (gives false v ∷ []))
+phase_carries v (reads st h) = joined _ _ _ [] [] [] (hidden_copy v h) refl (hidden_front st (gives Read v ∷ []))
 phase_carries v (upgrades st h) = joined _ _ _ [] [] [] (hidden_copy v h) refl (hidden_fetch st)
 phase_carries v (loses st h q) = joined _ _ _ [] [] [] (hidden_copy v h) (hidden_asking q) (hidden_front st (drops ∷ []))
-phase_carries v (reads_loses st h) = joined _ _ _ [] [] [] (hidden_copy v h) refl (hidden_front st (gives false v ∷ drops ∷ []))
+phase_carries v (reads_loses st h) = joined _ _ _ [] [] [] (hidden_copy v h) refl (hidden_front st (gives Read v ∷ drops ∷ []))
 phase_carries v (dropped st q) = joined _ _ _ [] [] [] refl (hidden_asking q) (hidden_fetch st)
 phase_carries v (dropped_late st w) = joined _ _ _ [] [] [] refl refl (hidden_fetch st)
 phase_carries v (writes st h f) =
-    joined _ _ _ [] [] (v ∷ []) (hidden_copy v h) refl (hidden_front st (gives true v ∷ fetch_there f) ∙ ap (λ l. v ∷ l) (hidden_fetch f))
+    joined _ _ _ [] [] (v ∷ []) (hidden_copy v h) refl (hidden_front st (gives Write v ∷ fetch_there f) ∙ ap (λ l. v ∷ l) (hidden_fetch f))
 phase_carries v (owns f) = joined _ _ _ (v ∷ []) [] [] refl refl (hidden_fetch f)
 phase_carries v (puts q) = joined _ _ _ [] (v ∷ []) [] refl (ap (λ l. v ∷ l) (hidden_behind q)) refl
 phase_carries v (puts_fetched f there q) = joined _ _ _ [] (v ∷ []) [] refl (ap (λ l. v ∷ l) (hidden_behind q)) (hidden_fetch there)
@@ -66,7 +68,7 @@ part_carries : (state : State) (waiting : List Request) (v : LineData) (y : ℕ)
 part_carries state waiting v y p f = ap carried f.part_is ∙ phase_carries v f.phase ∙ ap (λ s. carried_by s v) (sym f.standing_is)
 
 -- the owner has it, and no other node
-carried_alone : (state : State) (memory : LineData) (waiting : List Request) (v : LineData) (n : ℕ → Part) (o : ℕ) (f : Option Bool) → Kept state memory waiting v n → standing state o ≡ owner f
+carried_alone : (state : State) (memory : LineData) (waiting : List Request) (v : LineData) (n : ℕ → Part) (o : ℕ) (f : Option Want) → Kept state memory waiting v n → standing state o ≡ owner f
     → (carried (n o) ≡ v ∷ []) × ((y : ℕ) → y ≢ o → carried (n y) ≡ [])
 carried_alone state memory waiting v n o f k is = (
   part_carries state waiting v o (n o) (k.fits o) ∙ ap (λ s. carried_by s v) is,
@@ -137,7 +139,7 @@ no_writer : (v : LineData) (h : Bool) → IsWritable (copy_there v h) → ⊥
 no_writer v true w = w
 no_writer v false w = w
 
-writer_owns : (v : LineData) (p : Phase) → IsWritable (phase_copy v p) → (f : Option Bool) × (standing_of p ≡ owner f)
+writer_owns : (v : LineData) (p : Phase) → IsWritable (phase_copy v p) → (f : Option Want) × (standing_of p ≡ owner f)
 writer_owns v (owns f) w = (f, refl)
 writer_owns v (away st q) w = absurd w
 writer_owns v (shares st h q) w = absurd (no_writer v h w)

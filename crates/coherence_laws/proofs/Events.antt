@@ -13,7 +13,8 @@ use Rattle.sim_base.proofs.CheckedSettings.{in_range}
 use Rattle.elf_image.specs.Layout.{Setup, initial_line}
 use Rattle.wire_msg.specs.declared.messages.Msg.{Msg}
 use Rattle.wire_msg.specs.declared.messages.Msg.TheVariants.{GetS, GetM, PutM, InvAck, FetchAck, DataS, Inv}
-use Rattle.wire_msg.specs.Message.{Up, is_reader, goes_home, may_send, line_of, up_of, down_of, up_about, down_about, ups, downs}
+use Rattle.wire_msg.specs.declared.lines.Up.{Up}
+use Rattle.wire_msg.specs.Message.{is_reader, goes_home, may_send, line_of, up_of, down_of, up_about, down_about, ups, downs}
 use Rattle.tile_cache.specs.Copy.{absent}
 use Rattle.dir_slice.specs.Line.{Home, fresh}
 use Rattle.dir_slice.specs.Inner.{IsWithin}

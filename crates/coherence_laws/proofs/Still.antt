@@ -7,6 +7,8 @@ use Rattle.sim_base.specs.declared.lines.LineData.{LineData}
 use Rattle.sim_base.specs.Numbering.{home_of}
 use Rattle.elf_image.specs.Layout.{Setup}
 use Rattle.wire_msg.specs.declared.messages.Msg.{Msg}
+use Rattle.wire_msg.specs.declared.lines.Want.{Want}
+use Rattle.wire_msg.specs.declared.lines.Want.TheVariants.{Read}
 use Rattle.wire_msg.specs.Message.{ups, downs}
 use Rattle.tile_core.specs.declared.cores.Status.{Status}
 use Rattle.tile_core.specs.declared.cores.Status.TheVariants.{Miss}
@@ -14,7 +16,7 @@ use Rattle.tile_core.specs.Core.{line_missed}
 use Rattle.tile_core.specs.Gathering.{Gathering}
 use Rattle.dir_slice.specs.Line.{Request, State as DirState, Uncached, Shared, Modified, BusyInv, BusyFetch, Home, is_busy}
 use Rattle.node_set.specs.NodeSet.{has_node}
-use Rattle.tile_node.specs.OneLine.{wants_by, wants_write}
+use Rattle.tile_node.specs.OneLine.{wants_by, want_for}
 use Rattle.control_server.specs.Control.{Check}
 use Rattle.control_server.specs.Serve.{line_at}
 use Rattle.event_journal.specs.State.{State}
@@ -43,7 +45,7 @@ victim_speaks v (dropped st q) e up down = cc
 victim_speaks v (dropped_late st w) e up down = cc
 victim_speaks v _ e up down = cc
 
-fetched_speaks : (v : LineData) (p : Phase) (w : Bool) → standing_of p ≡ owner (Some w) → phase_up v p ≡ [] → phase_down v p ≡ [] → ⊥
+fetched_speaks : (v : LineData) (p : Phase) (w : Want) → standing_of p ≡ owner (Some w) → phase_up v p ≡ [] → phase_down v p ≡ [] → ⊥
 fetched_speaks v (writes None h f) w e up down = cc
 fetched_speaks v (writes (Some g) h f) w e up down = cc
 fetched_speaks v (owns None) w e up down = cc
@@ -131,13 +133,13 @@ still_lines_are_served w events k checked run still node = holds_served w (reach
 missed : (write : Gathering) (status : Status) → ((k : ℕ) → wants_by write k status ≡ None) → is_missing status ≡ false
 missed write (Miss access) none =
     let line : ℕ = line_missed write access in
-    absurd (none-some (wants_write access) (sym (none line) ∙ cond-true (line == line) (Some (wants_write access)) None (itself line)))
+    absurd (none-some (want_for access) (sym (none line) ∙ cond-true (line == line) (Some (want_for access)) None (itself line)))
 missed write _ none = refl
 
 checked_none : (check : Option Check) → ((k : ℕ) → check_wants check k ≡ None) → is_some check ≡ false
 checked_none None none = refl
 checked_none (Some check) none =
-    let line : ℕ = line_at check.addr in absurd (none-some false (sym (none line) ∙ cond-true (line == line) (Some false) None (itself line)))
+    let line : ℕ = line_at check.addr in absurd (none-some Read (sym (none line) ∙ cond-true (line == line) (Some Read) None (itself line)))
 
 waits_not : (node : Node) → ((k : ℕ) → want_at node k ≡ None) → waits_for_line node ≡ false
 waits_not (Tile t) none = missed t.core.write t.core.status none

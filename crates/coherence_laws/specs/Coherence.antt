@@ -5,7 +5,10 @@ use Rattle.sim_base.specs.declared.lines.LineData.{LineData}
 use Rattle.sim_base.specs.Numbering.{home_of}
 use Rattle.elf_image.specs.Layout.{Setup}
 use Rattle.wire_msg.specs.declared.messages.Msg.{Msg}
-use Rattle.wire_msg.specs.Message.{Up, gives_up, answers, Down, gives, ups, downs}
+use Rattle.wire_msg.specs.declared.lines.Want.TheVariants.{Write}
+use Rattle.wire_msg.specs.declared.lines.Up.{Up}
+use Rattle.wire_msg.specs.declared.lines.Up.TheVariants.{GivesUp, HandsOver}
+use Rattle.wire_msg.specs.Message.{Down, gives, ups, downs}
 use Rattle.tile_cache.specs.Copy.{Copy, absent, shared, modified}
 use Rattle.event_journal.specs.State.{State}
 use Rattle.node_machine.specs.declared.nodes.Node.{Node}
@@ -28,12 +31,12 @@ in_copy (modified content) = content ∷ []
 in_copy _ = []
 
 abbrev pub in_up : Up → Option LineData
-in_up (gives_up content) = Some content
-in_up (answers content) = Some content
+in_up (GivesUp content) = Some content
+in_up (HandsOver content) = Some content
 in_up _ = None
 
 abbrev pub in_down : Down → Option LineData
-in_down (gives true content) = Some content
+in_down (gives Write content) = Some content
 in_down _ = None
 
 abbrev pub carried : Part → List LineData
