@@ -77,7 +77,7 @@ pub no_up_here : (w : Setup) (s : State Node Msg) (k i x : ℕ) (msg : Msg) (res
 no_up_here w s k i x msg rest p waits ne = (first_silent (up_about k) msg rest (sym (ap (ups k) waits) ∙ p.up i x ne)).0
 
 -- a home's word on the line is the first of what is on its way
-front_is : (w : Setup) (s : State Node Msg) (k i x : ℕ) (msg : Msg) (rest : List Msg) (says : Down) → s.queue i x ≡ msg ∷ rest → down_about k msg ≡ Some says → i ≡ home_of w.config k
+pub front_is : (w : Setup) (s : State Node Msg) (k i x : ℕ) (msg : Msg) (rest : List Msg) (says : Down) → s.queue i x ≡ msg ∷ rest → down_about k msg ≡ Some says → i ≡ home_of w.config k
     → (part_of w s k x).down ≡ says ∷ downs k rest
 front_is w s k i x msg rest says waits word at =
     subst (λ z. downs k (s.queue z x) ≡ says ∷ downs k rest) at (ap (downs k) waits ∙ first_said (down_about k) msg rest says word)

@@ -1,5 +1,5 @@
 -- From one phase to the next: what the home takes from a node, what it sends to it, and what the node does.
-use Rattle.std.proofs.Common.{◌≡◌, Bool, true, false, List, [], ◌∷◌, Some, None, refl, ap, inl, inr, append_assoc}
+use Rattle.std.proofs.Common.{◌≡◌, true, false, List, [], ◌∷◌, Some, None, refl, ap, inl, inr, append_assoc}
 use Rattle.std.specs.Prelude.{Option, ◌⊎◌}
 use Rattle.sim_base.specs.declared.lines.LineData.{LineData}
 use Rattle.wire_msg.specs.declared.lines.Want.{Want}

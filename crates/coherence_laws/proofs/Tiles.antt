@@ -4,7 +4,7 @@ use Rattle.std.proofs.lemmas.Bool.Decides.{nat_tests}
 use Rattle.std.proofs.lemmas.Bool.{cases_Bool, cond-true, cond-false}
 use Rattle.std.proofs.lemmas.Option.{none-some}
 use Rattle.std.proofs.lemmas.List.Elements.{All-weaker}
-use Rattle.std.specs.Prelude.{Option, All, nat_lt, IfSome}
+use Rattle.std.specs.Prelude.{Option, All, nat_lt}
 use Rattle.sim_base.specs.declared.lines.LineData.{LineData}
 use Rattle.sim_base.specs.declared.settings.Config.{Config}
 use Rattle.sim_base.specs.Numbering.{home_of}
@@ -12,7 +12,6 @@ use Rattle.elf_image.specs.Layout.{Setup}
 use Rattle.wire_msg.specs.declared.messages.Msg.{Msg}
 use Rattle.wire_msg.specs.declared.messages.Msg.TheVariants.{DataS, DataM, Inv, Fetch, FetchInv}
 use Rattle.wire_msg.specs.declared.lines.Up.{Up}
-use Rattle.wire_msg.specs.declared.lines.Up.TheVariants.{Asks, GivesUp, Acknowledges, HandsOver}
 use Rattle.wire_msg.specs.Message.{Down, may_send, line_of, up_of, up_about, down_about, ups, downs}
 use Rattle.tile_cache.specs.Cache.{IsCache}
 use Rattle.tile_cache.specs.Copy.{copy_of}
@@ -83,7 +82,7 @@ works_of_step w t k =
     of_step_if (is_writing t.core.status) (writes_at t k) (follows_at t (plan_of w t.core) k)
     (of_step_if (is_gathered t.core.write) nothing (needs_at t None k) tt (needed_of_step t None k)) (follows_of_step t (plan_of w t.core) k)
 
-step_of_step : (w : Setup) (t : TileData) (k : ℕ) → IsOfStep (step_at w t k)
+pub step_of_step : (w : Setup) (t : TileData) (k : ℕ) → IsOfStep (step_at w t k)
 step_of_step w t k =
     of_step_if (waits_for_limit w.config.policy t.core.clock t.core.limit) _ _ tt
     (of_step_if (looks_around w.config.policy w.config.tiles t.core.clock t.core.next_check) _ _ tt (works_of_step w t k))

@@ -1,11 +1,11 @@
 -- What a state has to be for its lines to be coherent: one writer or only readers, at most one carrier, one value.
-use Rattle.std.specs.Prelude.{ℕ, ◌≡◌, ◌≢◌, ◌⊎◌, true, List, [], ◌∷◌, ◌++◌, Option, Some, None}
-use Rattle.std.specs.List.{filter_map}
+use Rattle.std.specs.Prelude.{ℕ, ◌≡◌, ◌≢◌, ◌⊎◌, List, [], ◌∷◌, ◌++◌, Option, Some, None}
+use Rattle.std.specs.List.{All, filter_map}
 use Rattle.sim_base.specs.declared.lines.LineData.{LineData}
 use Rattle.sim_base.specs.Numbering.{home_of}
 use Rattle.elf_image.specs.Layout.{Setup}
 use Rattle.wire_msg.specs.declared.messages.Msg.{Msg}
-use Rattle.wire_msg.specs.declared.lines.Want.TheVariants.{Write}
+use Rattle.wire_msg.specs.declared.lines.Want.TheVariants.{Read, Write}
 use Rattle.wire_msg.specs.declared.lines.Up.{Up}
 use Rattle.wire_msg.specs.declared.lines.Up.TheVariants.{GivesUp, HandsOver}
 use Rattle.wire_msg.specs.Message.{Down, gives, ups, downs}
@@ -25,7 +25,7 @@ abbrev pub OneWriterOrReaders : State Node Msg → ℕ → Type 0
 OneWriterOrReaders s k = (x y : ℕ) → IsWritable (copy_at (s.node x) k) → (x ≡ y) ⊎ (copy_at (s.node y) k ≡ absent)
 
 -- the data of a line that only one place may have: a copy to write, the line on its way to a writer, and what its owner
--- gives up or answers a fetch with
+-- gives up or hands over
 abbrev pub in_copy : Copy → List LineData
 in_copy (modified content) = content ∷ []
 in_copy _ = []
@@ -66,9 +66,16 @@ pub record OnlyByHome (w : Setup) (s : State Node Msg) (k : ℕ) : Type 0 where
   pub up : (from to : ℕ) → to ≢ home_of w.config k → ups k (s.queue from to) ≡ []
   pub down : (from to : ℕ) → from ≢ home_of w.config k → downs k (s.queue from to) ≡ []
 
--- a line is coherent with this value: one writer or only readers, one place that has the value, and every copy has it
+-- the data of a line on its way to a reader
+abbrev pub to_reader : Down → Option LineData
+to_reader (gives Read content) = Some content
+to_reader _ = None
+
+-- a line is coherent with this value: one writer or only readers, one place that has the value, and every copy has it, and
+-- what is on its way to readers
 pub record IsCoherent (w : Setup) (s : State Node Msg) (k : ℕ) (v : LineData) : Type 0 where
   pub writer : OneWriterOrReaders s k
   pub value : HasValue w s k v
   pub copies : (x : ℕ) → HasData (copy_at (s.node x) k) v
+  pub readers : (x : ℕ) → All (λ content. content ≡ v) (filter_map to_reader (part_of w s k x).down)
   pub messages : OnlyByHome w s k
