@@ -7,7 +7,10 @@ use Rattle.sim_base.specs.LittleEndian.{loaded}
 use Rattle.rv_exec.specs.declared.access.AccessOp.{AccessOp}
 use Rattle.rv_exec.specs.declared.access.AccessOp.TheVariants.{Load, Store, Lr, Sc, Amo}
 use Rattle.rv_exec.specs.Access.{Asked, finish_by}
-use Rattle.wire_msg.specs.Message.{Up, Down, gives, drops, fetches}
+use Rattle.wire_msg.specs.declared.lines.Want.{Want}
+use Rattle.wire_msg.specs.declared.lines.Want.TheVariants.{Read, Write}
+use Rattle.wire_msg.specs.declared.lines.Up.{Up}
+use Rattle.wire_msg.specs.Message.{Down, gives, drops, fetches}
 use Rattle.tile_core.specs.declared.cores.Status.{Status}
 use Rattle.tile_core.specs.declared.cores.Status.TheVariants.{Miss}
 use Rattle.tile_core.specs.Core.{line_missed}
@@ -15,8 +18,8 @@ use Rattle.tile_core.specs.Gathering.{Gathering}
 use Rattle.tile_cache.specs.Copy.{Copy, absent, shared, modified, held_as}
 use Rattle.dir_slice.specs.Line.{Request, State, Uncached, Shared, Modified, BusyInv, BusyFetch}
 use Rattle.node_set.specs.NodeSet.{has_node}
-use Rattle.tile_node.specs.Tile.{is_write, place_in_line}
-use Rattle.tile_node.specs.OneLine.{wants_by, wants_write, data_written, data_after, Happening, nothing, hit, asked, came, evicted, fetched, copy_after, told_after, wants_after, hold_given, takes, waiting, heard}
+use Rattle.tile_node.specs.Tile.{access_want, place_in_line}
+use Rattle.tile_node.specs.OneLine.{wants_by, want_for, data_written, data_after, Happening, nothing, hit, asked, came, evicted, fetched, copy_after, told_after, wants_after, hold_given, takes, waiting, heard}
 use Rattle.tile_node.specs.OneLineLaws.{MayChange, MayHappen}
 use Rattle.coherence_laws.specs.Part.{Part}
 use Rattle.coherence_laws.specs.Laws.{value_after}
@@ -33,32 +36,32 @@ moved h p ds = part (copy_after h p.copy) (wants_after h p.want) (p.up ++ told_a
 pub moved_nothing : (p : Part) → moved nothing p p.down ≡ p
 moved_nothing p = ap (λ us. part p.copy p.want us p.down) (append-nil p.up)
 
-evicted_is : (copy : Copy) (want : Option Bool) (up : List Up) (down : List Down) → moved evicted (part copy want up down) down ≡ without_copy copy (part copy want up down)
+evicted_is : (copy : Copy) (want : Option Want) (up : List Up) (down : List Down) → moved evicted (part copy want up down) down ≡ without_copy copy (part copy want up down)
 evicted_is absent want up down = ap (λ us. part absent want us down) (append-nil up)
 evicted_is (shared d) want up down = ap (λ us. part absent want us down) (append-nil up)
 evicted_is (modified d) want up down = refl
 
-fetched_is : (w : Bool) (copy : Copy) (want : Option Bool) (up : List Up) (down ds : List Down) → moved (fetched w) (part copy want up down) ds ≡ with_fetch w copy (part copy want up down) ds
+fetched_is : (w : Want) (copy : Copy) (want : Option Want) (up : List Up) (down ds : List Down) → moved (fetched w) (part copy want up down) ds ≡ with_fetch w copy (part copy want up down) ds
 fetched_is w absent want up down ds = ap (λ us. part absent want us ds) (append-nil up)
 fetched_is w (shared d) want up down ds = ap (λ us. part (shared d) want us ds) (append-nil up)
 fetched_is w (modified d) want up down ds = refl
 
-came_is : (w : Bool) (d : LineData) (p : Part) (ds : List Down) → moved (came (hold_given w) d) p ds ≡ with_line w d p ds
+came_is : (w : Want) (d : LineData) (p : Part) (ds : List Down) → moved (came (hold_given w) d) p ds ≡ with_line w d p ds
 came_is w d p ds = ap (λ us. part (held_as (hold_given w) d) None us ds) (append-nil p.up)
 
 -- who is beside an owner, and what memory owes then
 
-others_strange : (state : State) (x y : ℕ) (f : Option Bool) → standing state x ≡ owner f → (x == y) ≡ false → standing state y ≡ stranger
+others_strange : (state : State) (x y : ℕ) (f : Option Want) → standing state x ≡ owner f → (x == y) ≡ false → standing state y ≡ stranger
 others_strange Uncached x y f e t = refl
 others_strange (Shared xs) x y f e t = elim (cases_Bool (has_node x xs)) [ inl u ↦ cc | inr u ↦ cc ]
 others_strange (Modified o) x y f e t = elim (cases_Bool (o == x)) [ inl u ↦ (let g = same_test o x y u in cc) | inr u ↦ cc ]
 others_strange (BusyInv r left) x y f e t = elim (cases_Bool (r == x)) [ inl u ↦ cc | inr u ↦ elim (cases_Bool (has_node x left)) [ inl z ↦ cc | inr z ↦ cc ] ]
 others_strange (BusyFetch w r o) x y f e t = elim (cases_Bool (o == x)) [ inl u ↦ (let g = same_test o x y u in cc) | inr u ↦ cc ]
 
-pub others_are_strange : (state : State) (x y : ℕ) (f : Option Bool) → standing state x ≡ owner f → (x == y) ≡ false → standing state y ≡ stranger
+pub others_are_strange : (state : State) (x y : ℕ) (f : Option Want) → standing state x ≡ owner f → (x == y) ≡ false → standing state y ≡ stranger
 others_are_strange = others_strange
 
-owed_nothing : (state : State) (x : ℕ) (f : Option Bool) (memory v : LineData) → standing state x ≡ owner f → MemoryHas state memory v
+owed_nothing : (state : State) (x : ℕ) (f : Option Want) (memory v : LineData) → standing state x ≡ owner f → MemoryHas state memory v
 owed_nothing Uncached x f memory v e = cc
 owed_nothing (Shared xs) x f memory v e = elim (cases_Bool (has_node x xs)) [ inl u ↦ cc | inr u ↦ cc ]
 owed_nothing (Modified o) x f memory v e = tt
@@ -66,7 +69,7 @@ owed_nothing (BusyInv r left) x f memory v e = elim (cases_Bool (r == x)) [ inl 
 owed_nothing (BusyFetch w r o) x f memory v e = tt
 
 -- the owner writes the line
-owner_writes : (state : State) (memory : LineData) (waits_there : List Request) (v d : LineData) (x : ℕ) (f : Option Bool) (n : ℕ → Part) (k : Kept state memory waits_there v n) (p : Part)
+owner_writes : (state : State) (memory : LineData) (waits_there : List Request) (v d : LineData) (x : ℕ) (f : Option Want) (n : ℕ → Part) (k : Kept state memory waits_there v n) (p : Part)
     → standing state x ≡ owner f → Comes d (standing_of (k.fits x).phase) (requests_of (k.fits x).phase) p → Kept state memory waits_there d (with_part x p n)
 owner_writes state memory waits_there v d x f n k p o c =
     let g = k.fits x in
@@ -122,19 +125,19 @@ moves_by state memory waits_there v x n k move p c e =
 copy_is : {state : State} {waits_there : List Request} {v : LineData} {x : ℕ} {p : Part} (f : Fits state waits_there v x p) (copy : Copy) → p.copy ≡ copy → phase_copy v f.phase ≡ copy
 copy_is f copy e = sym (ap (λ (p : Part). p.copy) f.part_is) ∙ e
 
-want_is : {state : State} {waits_there : List Request} {v : LineData} {x : ℕ} {p : Part} (f : Fits state waits_there v x p) (want : Option Bool) → p.want ≡ want → phase_want f.phase ≡ want
+want_is : {state : State} {waits_there : List Request} {v : LineData} {x : ℕ} {p : Part} (f : Fits state waits_there v x p) (want : Option Want) → p.want ≡ want → phase_want f.phase ≡ want
 want_is f want e = sym (ap (λ (p : Part). p.want) f.part_is) ∙ e
 
 down_is : {state : State} {waits_there : List Request} {v : LineData} {x : ℕ} {p : Part} (f : Fits state waits_there v x p) (ds : List Down) → p.down ≡ ds → phase_down v f.phase ≡ ds
 down_is f ds e = sym (ap (λ (p : Part). p.down) f.part_is) ∙ e
 
 -- it asks for the line
-not_written : (w : Bool) (copy : Copy) → MayHappen (asked w) copy None → IsNotWritten copy
+not_written : (w : Want) (copy : Copy) → MayHappen (asked w) copy None → IsNotWritten copy
 not_written w absent may = tt
 not_written w (shared d) may = tt
 not_written w (modified d) may = may.0
 
-pub asks_kept : (state : State) (memory : LineData) (waits_there : List Request) (v : LineData) (x : ℕ) (n : ℕ → Part) (w : Bool) → Kept state memory waits_there v n → (n x).want ≡ None → IsNotWritten (n x).copy
+pub asks_kept : (state : State) (memory : LineData) (waits_there : List Request) (v : LineData) (x : ℕ) (n : ℕ → Part) (w : Want) → Kept state memory waits_there v n → (n x).want ≡ None → IsNotWritten (n x).copy
     → Kept state memory waits_there v (with_part x (asked_for w (n x)) n)
 asks_kept state memory waits_there v x n w k want copy =
     let f = k.fits x in
@@ -193,9 +196,9 @@ step_kept state memory waits_there v x n status _ k is may = absurd is
 
 -- the home's words
 
-takes_own : (w : Bool) → takes w (Some w) ≡ true
-takes_own true = refl
-takes_own false = refl
+takes_own : (w : Want) → takes w (Some w) ≡ true
+takes_own Read = refl
+takes_own Write = refl
 
 pub drops_kept : (state : State) (memory : LineData) (waits_there : List Request) (v : LineData) (x : ℕ) (n : ℕ → Part) (ds : List Down) → Kept state memory waits_there v n → (n x).down ≡ drops ∷ ds
     → Kept state memory waits_there v (with_part x (with_dropped (n x) ds) n)
@@ -203,14 +206,14 @@ drops_kept state memory waits_there v x n ds k e =
     let f = k.fits x in
     moves_by state memory waits_there v x n k (λ (p : Part). with_dropped p ds) (with_dropped (n x) ds) (drops_copy v f.phase ds (down_is f (drops ∷ ds) e)) refl
 
-pub fetch_kept : (state : State) (memory : LineData) (waits_there : List Request) (v : LineData) (x : ℕ) (n : ℕ → Part) (w : Bool) (ds : List Down) → Kept state memory waits_there v n
+pub fetch_kept : (state : State) (memory : LineData) (waits_there : List Request) (v : LineData) (x : ℕ) (n : ℕ → Part) (w : Want) (ds : List Down) → Kept state memory waits_there v n
     → (n x).down ≡ fetches w ∷ ds → Kept state memory waits_there v (with_part x (with_fetch w (n x).copy (n x) ds) n)
 fetch_kept state memory waits_there v x n w ds k e =
     let f = k.fits x in
     moves_by state memory waits_there v x n k (λ (p : Part). with_fetch w p.copy p ds) (with_fetch w (n x).copy (n x) ds)
     (answers_fetch v f.phase w ds (down_is f (fetches w ∷ ds) e)) refl
 
-pub line_wanted : (state : State) (memory : LineData) (waits_there : List Request) (v : LineData) (x : ℕ) (n : ℕ → Part) (w : Bool) (d : LineData) (ds : List Down) → Kept state memory waits_there v n
+pub line_wanted : (state : State) (memory : LineData) (waits_there : List Request) (v : LineData) (x : ℕ) (n : ℕ → Part) (w : Want) (d : LineData) (ds : List Down) → Kept state memory waits_there v n
     → (n x).down ≡ gives w d ∷ ds → (d ≡ v) × ((n x).want ≡ Some w)
 line_wanted state memory waits_there v x n w d ds k e =
     let f = k.fits x in
@@ -218,64 +221,64 @@ line_wanted state memory waits_there v x n w d ds k e =
     (c.0, ap (λ (p : Part). p.want) f.part_is ∙ c.1)
 
 -- the line comes to a node that keeps no copy
-pub reads_kept : (state : State) (memory : LineData) (waits_there : List Request) (v : LineData) (x : ℕ) (n : ℕ → Part) (w : Bool) (d : LineData) (ds : List Down) → Kept state memory waits_there v n
-    → (n x).down ≡ gives w d ∷ ds → (n x).want ≡ Some false → Kept state memory waits_there v (with_part x (part absent None (n x).up ds) n)
+pub reads_kept : (state : State) (memory : LineData) (waits_there : List Request) (v : LineData) (x : ℕ) (n : ℕ → Part) (w : Want) (d : LineData) (ds : List Down) → Kept state memory waits_there v n
+    → (n x).down ≡ gives w d ∷ ds → (n x).want ≡ Some Read → Kept state memory waits_there v (with_part x (part absent None (n x).up ds) n)
 reads_kept state memory waits_there v x n w d ds k e want =
     let f = k.fits x in
     moves_by state memory waits_there v x n k (λ (p : Part). part absent None p.up ds) (part absent None (n x).up ds)
-    (reads_line v f.phase w d ds (down_is f (gives w d ∷ ds) e) (want_is f (Some false) want)) refl
+    (reads_line v f.phase w d ds (down_is f (gives w d ∷ ds) e) (want_is f (Some Read) want)) refl
 
--- the line comes, to be read or (true) to be written, with what the access made of it
-line_kept : (state : State) (memory : LineData) (waits_there : List Request) (v : LineData) (x : ℕ) (n : ℕ → Part) (w : Bool) (d new : LineData) (ds : List Down) → Kept state memory waits_there v n
-    → (n x).down ≡ gives w d ∷ ds → (w ≡ false → new ≡ d) → Kept state memory waits_there new (with_part x (moved (came (hold_given w) new) (n x) ds) n)
-line_kept state memory waits_there v x n false d new ds k e same =
+-- the line comes, to be read or to be written, with what the access made of it
+line_kept : (state : State) (memory : LineData) (waits_there : List Request) (v : LineData) (x : ℕ) (n : ℕ → Part) (w : Want) (d new : LineData) (ds : List Down) → Kept state memory waits_there v n
+    → (n x).down ≡ gives w d ∷ ds → (w ≡ Read → new ≡ d) → Kept state memory waits_there new (with_part x (moved (came (hold_given w) new) (n x) ds) n)
+line_kept state memory waits_there v x n Read d new ds k e same =
     let f = k.fits x in
-    let c = takes_line v f.phase false d ds (down_is f (gives false d ∷ ds) e) in
+    let c = takes_line v f.phase Read d ds (down_is f (gives Read d ∷ ds) e) in
     let is : new ≡ d = same refl in
-    subst (λ z. Kept state memory waits_there z (with_part x (moved (came (hold_given false) new) (n x) ds) n)) (sym (is ∙ c.0))
-    (moves_by state memory waits_there v x n k (λ (p : Part). with_line false d p ds) (moved (came (hold_given false) new) (n x) ds) c.2
-    (came_is false new (n x) ds ∙ ap (λ z. with_line false z (n x) ds) is))
-line_kept state memory waits_there v x n true d new ds k e same =
+    subst (λ z. Kept state memory waits_there z (with_part x (moved (came (hold_given Read) new) (n x) ds) n)) (sym (is ∙ c.0))
+    (moves_by state memory waits_there v x n k (λ (p : Part). with_line Read d p ds) (moved (came (hold_given Read) new) (n x) ds) c.2
+    (came_is Read new (n x) ds ∙ ap (λ z. with_line Read z (n x) ds) is))
+line_kept state memory waits_there v x n Write d new ds k e same =
     let f = k.fits x in
-    let c = takes_line v f.phase true d ds (down_is f (gives true d ∷ ds) e) in
+    let c = takes_line v f.phase Write d ds (down_is f (gives Write d ∷ ds) e) in
     let q : Phase = c.2.phase in
     let m : phase_copy v q ≡ modified d = sym (ap (λ (p : Part). p.copy) c.2.part_is) in
     let r = writes_line v new d q m in
-    owner_writes state memory waits_there v new x r.1 n k (moved (came (hold_given true) new) (n x) ds) (f.standing_is ∙ c.2.standing_is ∙ r.2)
+    owner_writes state memory waits_there v new x r.1 n k (moved (came (hold_given Write) new) (n x) ds) (f.standing_is ∙ c.2.standing_is ∙ r.2)
     (record {
       phase = r.3.phase;
       standing_is = c.2.standing_is ∙ r.3.standing_is;
       requests_are = c.2.requests_are ∙ r.3.requests_are;
       part_is =
-          came_is true new (n x) ds ∙ ap (λ (p : Part). part (modified new) None p.up ds) f.part_is
+          came_is Write new (n x) ds ∙ ap (λ (p : Part). part (modified new) None p.up ds) f.part_is
           ∙ ap (λ (p : Part). part (modified new) p.want p.up p.down) c.2.part_is ∙ r.3.part_is;
     })
 
 -- what waits for a line to read it leaves its data
 
-load_writes : (op : AccessOp) (access : Asked) (old : ℕ) → is_write op ≡ false → (finish_by op access old).write ≡ None
+load_writes : (op : AccessOp) (access : Asked) (old : ℕ) → access_want op ≡ Read → (finish_by op access old).write ≡ None
 load_writes Load access old e = refl
 load_writes Store access old e = cc
 load_writes Lr access old e = cc
 load_writes Sc access old e = cc
 load_writes (Amo op) access old e = cc
 
-read_leaves : (access : Option Asked) (content : LineData) → wants_write access ≡ false → data_after access content ≡ content
+read_leaves : (access : Option Asked) (content : LineData) → want_for access ≡ Read → data_after access content ≡ content
 read_leaves None content e = refl
 read_leaves (Some access) content e =
     ap (λ write. data_written access write content) (load_writes access.op access (loaded (slice_index content.bytes) (place_in_line access.addr) access.size) e)
 
-missed_reads : (b : Bool) (access : Option Asked) → (if b then Some (wants_write access) else None) ≡ Some false → wants_write access ≡ false
+missed_reads : (b : Bool) (access : Option Asked) → (if b then Some (want_for access) else None) ≡ Some Read → want_for access ≡ Read
 missed_reads true access e = cc
 missed_reads false access e = cc
 
-pub waiting_leaves : (write : Gathering) (k : ℕ) (status : Status) (content : LineData) → wants_by write k status ≡ Some false → data_after (waiting status) content ≡ content
+pub waiting_leaves : (write : Gathering) (k : ℕ) (status : Status) (content : LineData) → wants_by write k status ≡ Some Read → data_after (waiting status) content ≡ content
 waiting_leaves write k (Miss access) content e = read_leaves access content (missed_reads (line_missed write access == k) access e)
 waiting_leaves write k _ content e = cc
 
 -- what a tile does with what its home says of the line
 pub word_kept : (state : State) (memory : LineData) (waits_there : List Request) (v : LineData) (x : ℕ) (n : ℕ → Part) (status : Status) (says : Down) (ds : List Down) → Kept state memory waits_there v n
-    → (n x).down ≡ says ∷ ds → ((content : LineData) → (n x).want ≡ Some false → data_after (waiting status) content ≡ content)
+    → (n x).down ≡ says ∷ ds → ((content : LineData) → (n x).want ≡ Some Read → data_after (waiting status) content ≡ content)
     → Kept state memory waits_there (value_after status (heard status (n x).want says) v) (with_part x (moved (heard status (n x).want says) (n x) ds) n)
 word_kept state memory waits_there v x n status drops ds k e leaves = drops_kept state memory waits_there v x n ds k e
 word_kept state memory waits_there v x n status (fetches w) ds k e leaves =

@@ -2,15 +2,18 @@
 use Rattle.std.proofs.Common.{◌≡◌, ◌≢◌, ℕ, Bool, true, false, List, [], ◌∷◌, ◌++◌, Some, None, ◌==◌, refl, sym, ap, ◌∙◌, inl, inr, subst}
 use Rattle.std.proofs.lemmas.Bool.{cases_Bool, cond-true}
 use Rattle.std.specs.Prelude.{Option, ◌⊎◌}
-use Rattle.std.specs.List.{filter_map}
+use Rattle.std.specs.List.{All, filter_map}
+use Rattle.std.proofs.lemmas.List.Elements.{All-nil, All-cons}
 use Rattle.sim_base.specs.declared.lines.LineData.{LineData}
+use Rattle.wire_msg.specs.declared.lines.Want.{Want}
+use Rattle.wire_msg.specs.declared.lines.Want.TheVariants.{Read, Write}
 use Rattle.wire_msg.specs.Message.{gives, drops, Down}
 use Rattle.tile_cache.specs.Copy.{absent}
 use Rattle.node_set.specs.NodeSet.{has_node}
 use Rattle.dir_slice.specs.Line.{Request, State, Uncached, Shared, Modified, BusyInv, BusyFetch}
 use Rattle.coherence_laws.specs.Part.{Part}
-use Rattle.coherence_laws.specs.Coherence.{IsWritable, HasData, in_copy, in_up, in_down, carried}
-use Rattle.coherence_laws.proofs.Phases.{Asking, quiet, on_way, at_home, Standing, stranger, sharer, upgrader, victim, owner, Phase, away, shares, reads, upgrades, loses, reads_loses, dropped, dropped_late, writes, owns, puts, puts_fetched, answers_shared, answers_gone, asking_up, behind, fetch_there, copy_there, standing_of, phase_copy, part_in, standing, Fits}
+use Rattle.coherence_laws.specs.Coherence.{IsWritable, HasData, in_copy, in_up, in_down, carried, to_reader}
+use Rattle.coherence_laws.proofs.Phases.{Asking, quiet, on_way, at_home, Standing, stranger, sharer, upgrader, victim, owner, Phase, away, shares, reads, upgrades, loses, reads_loses, dropped, dropped_late, writes, owns, puts, puts_fetched, answers_shared, answers_gone, asking_up, behind, fetch_there, copy_there, standing_of, phase_copy, phase_down, part_in, standing, Fits}
 use Rattle.coherence_laws.proofs.Nodes.{equal, itself}
 use Rattle.coherence_laws.proofs.Serve.{Kept}
 use Rattle.coherence_laws.proofs.Acts.{others_are_strange}
@@ -30,15 +33,15 @@ hidden_asking quiet = refl
 hidden_asking (on_way w) = refl
 hidden_asking (at_home w) = refl
 
-hidden_behind : (q : Option Bool) → filter_map in_up (behind q) ≡ []
+hidden_behind : (q : Option Want) → filter_map in_up (behind q) ≡ []
 hidden_behind None = refl
 hidden_behind (Some w) = refl
 
-hidden_fetch : (st : Option Bool) → filter_map in_down (fetch_there st) ≡ []
+hidden_fetch : (st : Option Want) → filter_map in_down (fetch_there st) ≡ []
 hidden_fetch None = refl
 hidden_fetch (Some w) = refl
 
-hidden_front : (st : Option Bool) (ds : List Down) → filter_map in_down (fetch_there st ++ ds) ≡ filter_map in_down ds
+hidden_front : (st : Option Want) (ds : List Down) → filter_map in_down (fetch_there st ++ ds) ≡ filter_map in_down ds
 hidden_front None ds = refl
 hidden_front (Some w) ds = refl
 
@@ -48,14 +51,14 @@ joined a b c a' b' c' e f g = cc
 phase_carries : (v : LineData) (p : Phase) → carried (part_in v p) ≡ carried_by (standing_of p) v
 phase_carries v (away st q) = joined _ _ _ [] [] [] refl (hidden_asking q) (hidden_fetch st)
 phase_carries v (shares st h q) = joined _ _ _ [] [] [] (hidden_copy v h) (hidden_asking q) (hidden_fetch st)
-phase_carries v (reads st h) = joined _ _ _ [] [] [] (hidden_copy v h) refl (hidden_front st (gives false v ∷ []))
+phase_carries v (reads st h) = joined _ _ _ [] [] [] (hidden_copy v h) refl (hidden_front st (gives Read v ∷ []))
 phase_carries v (upgrades st h) = joined _ _ _ [] [] [] (hidden_copy v h) refl (hidden_fetch st)
 phase_carries v (loses st h q) = joined _ _ _ [] [] [] (hidden_copy v h) (hidden_asking q) (hidden_front st (drops ∷ []))
-phase_carries v (reads_loses st h) = joined _ _ _ [] [] [] (hidden_copy v h) refl (hidden_front st (gives false v ∷ drops ∷ []))
+phase_carries v (reads_loses st h) = joined _ _ _ [] [] [] (hidden_copy v h) refl (hidden_front st (gives Read v ∷ drops ∷ []))
 phase_carries v (dropped st q) = joined _ _ _ [] [] [] refl (hidden_asking q) (hidden_fetch st)
 phase_carries v (dropped_late st w) = joined _ _ _ [] [] [] refl refl (hidden_fetch st)
 phase_carries v (writes st h f) =
-    joined _ _ _ [] [] (v ∷ []) (hidden_copy v h) refl (hidden_front st (gives true v ∷ fetch_there f) ∙ ap (λ l. v ∷ l) (hidden_fetch f))
+    joined _ _ _ [] [] (v ∷ []) (hidden_copy v h) refl (hidden_front st (gives Write v ∷ fetch_there f) ∙ ap (λ l. v ∷ l) (hidden_fetch f))
 phase_carries v (owns f) = joined _ _ _ (v ∷ []) [] [] refl refl (hidden_fetch f)
 phase_carries v (puts q) = joined _ _ _ [] (v ∷ []) [] refl (ap (λ l. v ∷ l) (hidden_behind q)) refl
 phase_carries v (puts_fetched f there q) = joined _ _ _ [] (v ∷ []) [] refl (ap (λ l. v ∷ l) (hidden_behind q)) (hidden_fetch there)
@@ -66,7 +69,7 @@ part_carries : (state : State) (waiting : List Request) (v : LineData) (y : ℕ)
 part_carries state waiting v y p f = ap carried f.part_is ∙ phase_carries v f.phase ∙ ap (λ s. carried_by s v) (sym f.standing_is)
 
 -- the owner has it, and no other node
-carried_alone : (state : State) (memory : LineData) (waiting : List Request) (v : LineData) (n : ℕ → Part) (o : ℕ) (f : Option Bool) → Kept state memory waiting v n → standing state o ≡ owner f
+carried_alone : (state : State) (memory : LineData) (waiting : List Request) (v : LineData) (n : ℕ → Part) (o : ℕ) (f : Option Want) → Kept state memory waiting v n → standing state o ≡ owner f
     → (carried (n o) ≡ v ∷ []) × ((y : ℕ) → y ≢ o → carried (n y) ≡ [])
 carried_alone state memory waiting v n o f k is = (
   part_carries state waiting v o (n o) (k.fits o) ∙ ap (λ s. carried_by s v) is,
@@ -133,11 +136,50 @@ phase_data v (answers_gone q) = tt
 pub copy_data : (state : State) (memory : LineData) (waiting : List Request) (v : LineData) (n : ℕ → Part) → Kept state memory waiting v n → (x : ℕ) → HasData (n x).copy v
 copy_data state memory waiting v n k x = let f = k.fits x in subst (λ copy. HasData copy v) (sym (ap (λ (p : Part). p.copy) f.part_is)) (phase_data v f.phase)
 
+-- what is on its way to a reader
+
+reads_fetch : (st : Option Want) → filter_map to_reader (fetch_there st) ≡ []
+reads_fetch None = refl
+reads_fetch (Some w) = refl
+
+reads_front : (st : Option Want) (ds : List Down) → filter_map to_reader (fetch_there st ++ ds) ≡ filter_map to_reader ds
+reads_front None ds = refl
+reads_front (Some w) ds = refl
+
+abbrev AllHave : LineData → List LineData → Type 0
+AllHave v all = All (λ content. content ≡ v) all
+
+none_has : (v : LineData) (all : List LineData) → all ≡ [] → AllHave v all
+none_has v all e = subst (AllHave v) (sym e) (All-nil (λ content. content ≡ v))
+
+one_has : (v : LineData) (all : List LineData) → all ≡ v ∷ [] → AllHave v all
+one_has v all e = subst (AllHave v) (sym e) (All-cons (λ content. content ≡ v) v [] refl (All-nil (λ content. content ≡ v)))
+
+phase_reads : (v : LineData) (p : Phase) → AllHave v (filter_map to_reader (phase_down v p))
+phase_reads v (away st q) = none_has v _ (reads_fetch st)
+phase_reads v (shares st h q) = none_has v _ (reads_fetch st)
+phase_reads v (reads st h) = one_has v _ (reads_front st (gives Read v ∷ []))
+phase_reads v (upgrades st h) = none_has v _ (reads_fetch st)
+phase_reads v (loses st h q) = none_has v _ (reads_front st (drops ∷ []))
+phase_reads v (reads_loses st h) = one_has v _ (reads_front st (gives Read v ∷ drops ∷ []))
+phase_reads v (dropped st q) = none_has v _ (reads_fetch st)
+phase_reads v (dropped_late st w) = none_has v _ (reads_fetch st)
+phase_reads v (writes st h f) = none_has v _ (reads_front st (gives Write v ∷ fetch_there f) ∙ reads_fetch f)
+phase_reads v (owns f) = none_has v _ (reads_fetch f)
+phase_reads v (puts q) = none_has v _ refl
+phase_reads v (puts_fetched f there q) = none_has v _ (reads_fetch there)
+phase_reads v (answers_shared h q) = none_has v _ refl
+phase_reads v (answers_gone q) = none_has v _ refl
+
+pub reader_data : (state : State) (memory : LineData) (waiting : List Request) (v : LineData) (n : ℕ → Part) → Kept state memory waiting v n → (x : ℕ) → AllHave v (filter_map to_reader (n x).down)
+reader_data state memory waiting v n k x =
+    let f = k.fits x in subst (λ down. AllHave v (filter_map to_reader down)) (sym (ap (λ (p : Part). p.down) f.part_is)) (phase_reads v f.phase)
+
 no_writer : (v : LineData) (h : Bool) → IsWritable (copy_there v h) → ⊥
 no_writer v true w = w
 no_writer v false w = w
 
-writer_owns : (v : LineData) (p : Phase) → IsWritable (phase_copy v p) → (f : Option Bool) × (standing_of p ≡ owner f)
+writer_owns : (v : LineData) (p : Phase) → IsWritable (phase_copy v p) → (f : Option Want) × (standing_of p ≡ owner f)
 writer_owns v (owns f) w = (f, refl)
 writer_owns v (away st q) w = absurd w
 writer_owns v (shares st h q) w = absurd (no_writer v h w)

@@ -12,7 +12,11 @@ use Rattle.sim_base.specs.Numbering.{home_of, control_node}
 use Rattle.elf_image.specs.Layout.{Setup}
 use Rattle.wire_msg.specs.declared.messages.Msg.{Msg}
 use Rattle.wire_msg.specs.declared.messages.Msg.TheVariants.{GetS, InvAck, DataS, DataM, Inv, Fetch, FetchInv}
-use Rattle.wire_msg.specs.Message.{Up, asks, acknowledges, Down, gives, drops, fetches, may_send, up_about, down_about, ups, downs}
+use Rattle.wire_msg.specs.declared.lines.Want.{Want}
+use Rattle.wire_msg.specs.declared.lines.Want.TheVariants.{Read, Write}
+use Rattle.wire_msg.specs.declared.lines.Up.{Up}
+use Rattle.wire_msg.specs.declared.lines.Up.TheVariants.{Asks, Acknowledges}
+use Rattle.wire_msg.specs.Message.{Down, gives, drops, fetches, may_send, up_about, down_about, ups, downs}
 use Rattle.tile_cache.specs.Copy.{absent}
 use Rattle.dir_slice.specs.Line.{State as DirState, Uncached, Shared, Modified, BusyInv, BusyFetch, Home}
 use Rattle.dir_slice.specs.Inner.{StateIsWithin}
@@ -73,7 +77,7 @@ pub no_up_here : (w : Setup) (s : State Node Msg) (k i x : ℕ) (msg : Msg) (res
 no_up_here w s k i x msg rest p waits ne = (first_silent (up_about k) msg rest (sym (ap (ups k) waits) ∙ p.up i x ne)).0
 
 -- a home's word on the line is the first of what is on its way
-front_is : (w : Setup) (s : State Node Msg) (k i x : ℕ) (msg : Msg) (rest : List Msg) (says : Down) → s.queue i x ≡ msg ∷ rest → down_about k msg ≡ Some says → i ≡ home_of w.config k
+pub front_is : (w : Setup) (s : State Node Msg) (k i x : ℕ) (msg : Msg) (rest : List Msg) (says : Down) → s.queue i x ≡ msg ∷ rest → down_about k msg ≡ Some says → i ≡ home_of w.config k
     → (part_of w s k x).down ≡ says ∷ downs k rest
 front_is w s k i x msg rest says waits word at =
     subst (λ z. downs k (s.queue z x) ≡ says ∷ downs k rest) at (ap (downs k) waits ∙ first_said (down_about k) msg rest says word)
@@ -101,7 +105,7 @@ acts_on_word w s k v i x msg rest change p placed waits no_up at home silent els
     ]))
 
 -- a word that a node without the line to write answers by nothing
-ignores_fetch : (w : Setup) (s : State Node Msg) (k : ℕ) (v : LineData) (i x : ℕ) (msg : Msg) (rest : List Msg) (change : Change Node Msg) (f : Bool) → Holds w s k v → s.queue i x ≡ msg ∷ rest
+ignores_fetch : (w : Setup) (s : State Node Msg) (k : ℕ) (v : LineData) (i x : ℕ) (msg : Msg) (rest : List Msg) (change : Change Node Msg) (f : Want) → Holds w s k v → s.queue i x ≡ msg ∷ rest
     → up_about k msg ≡ None → down_about k msg ≡ Some (fetches f) → i ≡ home_of w.config k → home_in change.node k ≡ home_in (s.node x) k → copy_at (s.node x) k ≡ absent → copy_at change.node k ≡ absent
     → want_at change.node k ≡ want_at (s.node x) k → All IsElse change.sent → Holds w (changed (with_queue s i x rest) x change) k v
 ignores_fetch w s k v i x msg rest change f held waits no_up word at home before after want all =
@@ -118,7 +122,7 @@ ignores_fetch w s k v i x msg rest change f held waits no_up word at home before
 
 -- the control server's step
 
-check_asks : (w : Setup) (k y line : ℕ) → ups k (messages_to y ((home_of w.config line, GetS line) ∷ [])) ≡ (if home_of w.config line == y then (if line == k then asks false ∷ [] else []) else [])
+check_asks : (w : Setup) (k y line : ℕ) → ups k (messages_to y ((home_of w.config line, GetS line) ∷ [])) ≡ (if home_of w.config line == y then (if line == k then Asks Read ∷ [] else []) else [])
 check_asks w k y line = elim (cases_Bool (home_of w.config line == y)) [
   | inl t ↦ elim (cases_Bool (line == k)) [ inl u ↦ rw (t, u) refl | inr u ↦ rw (t, u) refl ]
   | inr t ↦ rw t refl
@@ -145,11 +149,11 @@ control_step_holds w s k v x c is can held =
           rests w s k v x change held home (sym copy) (ap (λ o. check_wants o k) serves.checking ∙ sym want) (λ y. else_ups k y act.mail serves.mail) (λ y. else_downs k y act.mail serves.mail)
       | inr checks ↦
           let line : ℕ = line_at checks.check.addr in
-          let asks_up : (y : ℕ) → ups k (messages_to y act.mail) ≡ (if home_of w.config line == y then (if line == k then asks false ∷ [] else []) else []) = λ y.
+          let asks_up : (y : ℕ) → ups k (messages_to y act.mail) ≡ (if home_of w.config line == y then (if line == k then Asks Read ∷ [] else []) else []) = λ y.
           ap (λ mail. ups k (messages_to y mail)) checks.mail ∙ check_asks w k y line
           in
           let silent : (y : ℕ) → downs k (messages_to y act.mail) ≡ [] = λ y. ap (λ mail. downs k (messages_to y mail)) checks.mail ∙ check_silent w k y line in
-          let wants : check_wants act.control.checking k ≡ (if line == k then Some false else None) = ap (λ o. check_wants o k) checks.checking in
+          let wants : check_wants act.control.checking k ≡ (if line == k then Some Read else None) = ap (λ o. check_wants o k) checks.checking in
           elim (cases_Bool (line == k)) [
             | inl t ↦
                 let same : line ≡ k = equal line k t in
@@ -159,14 +163,14 @@ control_step_holds w s k v x c is can held =
                   | inl u ↦ absurd (ne (sym (equal (home_of w.config line) y u) ∙ ap (home_of w.config) same))
                   | inr u ↦ cond-false (home_of w.config line == y) _ _ u
                 ])
-                (kept_at _ (asks_kept h.state h.memory h.waiting v x n false held.kept want (subst IsNotWritten (sym copy) tt))
+                (kept_at _ (asks_kept h.state h.memory h.waiting v x n Read held.kept want (subst IsNotWritten (sym copy) tt))
                 (λ y. ap (λ p. with_part x p n y)
                 (ap (λ z. part z (check_wants act.control.checking k) ((n x).up ++ ups k (messages_to (home_of w.config k) act.mail)) (n x).down) (sym copy)
                 ∙ ap (λ z. part (n x).copy z ((n x).up ++ ups k (messages_to (home_of w.config k) act.mail)) (n x).down) (wants ∙ cond-true (line == k) _ _ t)
-                ∙ ap (λ z. part (n x).copy (Some false) ((n x).up ++ z) (n x).down) (asks_up (home_of w.config k) ∙ cond-true (home_of w.config line == home_of w.config k) _ _ at ∙ cond-true (line == k) _ _ t))))
+                ∙ ap (λ z. part (n x).copy (Some Read) ((n x).up ++ z) (n x).down) (asks_up (home_of w.config k) ∙ cond-true (home_of w.config line == home_of w.config k) _ _ at ∙ cond-true (line == k) _ _ t))))
             | inr t ↦
                 let none : (y : ℕ) → ups k (messages_to y act.mail) ≡ [] = λ y.
-                asks_up y ∙ ap (λ l. if home_of w.config line == y then l else []) (cond-false (line == k) (asks false ∷ []) [] t) ∙ alike (home_of w.config line == y) []
+                asks_up y ∙ ap (λ l. if home_of w.config line == y then l else []) (cond-false (line == k) (Asks Read ∷ []) [] t) ∙ alike (home_of w.config line == y) []
                 in
                 rests w s k v x change held home (sym copy) (wants ∙ cond-false (line == k) _ _ t ∙ sym want) none silent
           ]
@@ -179,7 +183,7 @@ reader_may c i x a at = let p : nat_lt i c.tiles ≡ true = grind (arith, nat_te
 
 -- of those not for readers a home says only these
 abbrev IsForWriters : Down → Type 0
-IsForWriters (gives w content) = w ≡ true
+IsForWriters (gives w content) = w ≡ Write
 IsForWriters drops = ⊥
 IsForWriters (fetches w) = Unit {0}
 
@@ -190,21 +194,21 @@ if_some false a d e = cc
 for_writers : (k : ℕ) (msg : Msg) (says : Down) → (IsForReaders msg → ⊥) → down_about k msg ≡ Some says → IsForWriters says
 for_writers k (DataS line content delay) says not_read e = absurd (not_read tt)
 for_writers k (Inv line) says not_read e = absurd (not_read tt)
-for_writers k (DataM line content delay) says not_read e = subst IsForWriters (if_some (line == k) (gives true content) says e) refl
-for_writers k (Fetch line) says not_read e = subst IsForWriters (if_some (line == k) (fetches false) says e) tt
-for_writers k (FetchInv line) says not_read e = subst IsForWriters (if_some (line == k) (fetches true) says e) tt
+for_writers k (DataM line content delay) says not_read e = subst IsForWriters (if_some (line == k) (gives Write content) says e) refl
+for_writers k (Fetch line) says not_read e = subst IsForWriters (if_some (line == k) (fetches Read) says e) tt
+for_writers k (FetchInv line) says not_read e = subst IsForWriters (if_some (line == k) (fetches Write) says e) tt
 for_writers k msg says not_read e = absurd (none-some says (sym (down_nothing k msg refl) ∙ e))
 
-never_writes : (o : Option Check) (k : ℕ) → check_wants o k ≡ Some true → ⊥
-never_writes None k e = none-some true e
+never_writes : (o : Option Check) (k : ℕ) → check_wants o k ≡ Some Write → ⊥
+never_writes None k e = none-some Write e
 never_writes (Some check) k e = wants_if (line_at check.addr == k) e
   where
-    wants_if : (b : Bool) → (if b then Some false else None) ≡ Some true → ⊥
+    wants_if : (b : Bool) → (if b then Some Read else None) ≡ Some Write → ⊥
     wants_if true e = cc
     wants_if false e = cc
 
-goes_on : (o : Option Check) (ended : Option End) (k : ℕ) → check_wants o k ≡ Some false → IsUnended o ended → ended ≡ None
-goes_on None ended k e alive = absurd (none-some false e)
+goes_on : (o : Option Check) (ended : Option End) (k : ℕ) → check_wants o k ≡ Some Read → IsUnended o ended → ended ≡ None
+goes_on None ended k e alive = absurd (none-some Read e)
 goes_on (Some check) ended k e alive = alive
 
 control_word : (w : Setup) (s : State Node Msg) (k : ℕ) (v : LineData) (i x : ℕ) (msg : Msg) (rest : List Msg) (c : Control) (says : Down) → s.node x ≡ ControlNode c → s.queue i x ≡ msg ∷ rest
@@ -252,11 +256,11 @@ control_data w s k v i x line content delay rest c is waits at alive from home h
     elim (cases_Bool (line == k)) [
       | inl t ↦
           let same : line ≡ k = equal line k t in
-          let word : down_about k msg ≡ Some (gives false content) = cond-true (line == k) _ None t in
+          let word : down_about k msg ≡ Some (gives Read content) = cond-true (line == k) _ None t in
           let at_home : i ≡ home_of w.config k = home ∙ ap (home_of w.config) same in
-          let front = front_is w s k i x msg rest (gives false content) waits word at_home in
-          let wanted = line_wanted h.state h.memory h.waiting v x n false content (downs k rest) held.kept front in
-          let checking : check_wants c.checking k ≡ Some false = sym (ap (λ m. want_at m k) is) ∙ wanted.1 in
+          let front = front_is w s k i x msg rest (gives Read content) waits word at_home in
+          let wanted = line_wanted h.state h.memory h.waiting v x n Read content (downs k rest) held.kept front in
+          let checking : check_wants c.checking k ≡ Some Read = sym (ap (λ m. want_at m k) is) ∙ wanted.1 in
           let may : may_send w.config i (control_node w.config) msg ≡ true = reader_may w.config i (control_node w.config) from refl in
           let reads : Reads w c line act = control_reads w c i line content delay alive may (goes_on c.checking c.control.ended k checking alive) in
           acts_on_word w s k v i x msg rest change (part absent None (n x).up (downs k rest)) held.placed waits no_up at_home (ap (λ m. home_in m k) (sym is))
@@ -264,7 +268,7 @@ control_data w s k v i x line content delay rest c is waits at alive from home h
           (ap (λ z. part absent z ((n x).up ++ ups k (messages_to (home_of w.config k) act.mail)) (downs k rest)) (subst (λ z. check_wants act.control.checking z ≡ None) same reads.waits)
           ∙ ap (λ z. part absent None ((n x).up ++ z) (downs k rest)) (else_ups k (home_of w.config k) act.mail reads.mail)
           ∙ ap (λ z. part absent None z (downs k rest)) (append-nil (n x).up))
-          (reads_kept h.state h.memory h.waiting v x n false content (downs k rest) held.kept front wanted.1)
+          (reads_kept h.state h.memory h.waiting v x n Read content (downs k rest) held.kept front wanted.1)
       | inr t ↦
           let passes : Passes c line act = control_passes w c i line content delay alive in
           rests w (with_queue s i x rest) k v x change (skips w s k v i x msg rest waits no_up (cond-false (line == k) _ _ t) held) (ap (λ m. home_in m k) (sym is)) (ap (λ m. copy_at m k) (sym is))
@@ -273,7 +277,7 @@ control_data w s k v i x line content delay rest c is waits at alive from home h
 
 -- an Inv
 
-ack_says : (k y i line : ℕ) → ups k (messages_to y ((i, InvAck line) ∷ [])) ≡ (if i == y then (if line == k then acknowledges ∷ [] else []) else [])
+ack_says : (k y i line : ℕ) → ups k (messages_to y ((i, InvAck line) ∷ [])) ≡ (if i == y then (if line == k then Acknowledges ∷ [] else []) else [])
 ack_says k y i line = elim (cases_Bool (i == y)) [
   | inl t ↦ elim (cases_Bool (line == k)) [ inl u ↦ rw (t, u) refl | inr u ↦ rw (t, u) refl ]
   | inr t ↦ rw t refl
@@ -311,11 +315,11 @@ control_inv w s k v i x line rest c is waits at from home held =
           ])
           (ap (λ z. part absent z ((n x).up ++ ups k (messages_to (home_of w.config k) act.mail)) (downs k rest)) want
           ∙ ap (λ z. part absent (n x).want ((n x).up ++ z) (downs k rest)) (ack_says k (home_of w.config k) i line ∙ cond-true (i == home_of w.config k) _ _ here ∙ cond-true (line == k) _ _ t)
-          ∙ ap (λ z. part (dropped_copy z) (n x).want ((n x).up ++ acknowledges ∷ []) (downs k rest)) (sym copy))
+          ∙ ap (λ z. part (dropped_copy z) (n x).want ((n x).up ++ Acknowledges ∷ []) (downs k rest)) (sym copy))
           (drops_kept h.state h.memory h.waiting v x n (downs k rest) held.kept front)
       | inr t ↦
           rests w (with_queue s i x rest) k v x change (skips w s k v i x msg rest waits no_up (cond-false (line == k) _ _ t) held) (ap (λ m. home_in m k) (sym is)) (sym copy) want
-          (λ y. ack_says k y i line ∙ ap (λ l. if i == y then l else []) (cond-false (line == k) (acknowledges ∷ []) [] t) ∙ alike (i == y) [])
+          (λ y. ack_says k y i line ∙ ap (λ l. if i == y then l else []) (cond-false (line == k) (Acknowledges ∷ []) [] t) ∙ alike (i == y) [])
           (λ y. ack_silent k y i line)
     ]
     in
@@ -329,7 +333,7 @@ pub control_takes : (w : Setup) (s : State Node Msg) (k : ℕ) (v : LineData) (i
     → s.queue i x ≡ msg ∷ rest → 0 < w.config.tiles → x ≡ control_node w.config → IsUnended c.checking c.control.ended → up_about k msg ≡ None → IsFromHome w i msg → Holds w s k v
     → Holds w (changed (with_queue s i x rest) x (change_of (of_control (control_delivered w c i msg)))) k v
 control_takes w s k v i x (DataS line content delay) rest c is waits some at alive no_up from_home held =
-    let home : i ≡ home_of w.config line = from_home line (λ none. none-some (gives false content) (sym none ∙ cond-true (line == line) _ None (itself line))) in
+    let home : i ≡ home_of w.config line = from_home line (λ none. none-some (gives Read content) (sym none ∙ cond-true (line == line) _ None (itself line))) in
     control_data w s k v i x line content delay rest c is waits at alive (home_below w line i some home) home held
 control_takes w s k v i x (Inv line) rest c is waits some at alive no_up from_home held =
     let home : i ≡ home_of w.config line = from_home line (λ none. none-some drops (sym none ∙ cond-true (line == line) _ None (itself line))) in
@@ -359,7 +363,7 @@ stranger_silent v (away st (on_way w)) e want = cc
 stranger_silent v (away st (at_home w)) e want = refl
 stranger_silent v _ e want = cc
 
-stranger_hears : (v : LineData) (p : Phase) (says : Down) (ds : List Down) → standing_of p ≡ stranger → phase_down v p ≡ says ∷ ds → (f : Bool) × (says ≡ fetches f)
+stranger_hears : (v : LineData) (p : Phase) (says : Down) (ds : List Down) → standing_of p ≡ stranger → phase_down v p ≡ says ∷ ds → (f : Want) × (says ≡ fetches f)
 stranger_hears v (away None q) says ds e front = cc
 stranger_hears v (away (Some f) q) says ds e front = (f, cc)
 stranger_hears v _ says ds e front = cc

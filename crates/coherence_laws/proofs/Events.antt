@@ -13,7 +13,8 @@ use Rattle.sim_base.proofs.CheckedSettings.{in_range}
 use Rattle.elf_image.specs.Layout.{Setup, initial_line}
 use Rattle.wire_msg.specs.declared.messages.Msg.{Msg}
 use Rattle.wire_msg.specs.declared.messages.Msg.TheVariants.{GetS, GetM, PutM, InvAck, FetchAck, DataS, Inv}
-use Rattle.wire_msg.specs.Message.{Up, is_reader, goes_home, may_send, line_of, up_of, down_of, up_about, down_about, ups, downs}
+use Rattle.wire_msg.specs.declared.lines.Up.{Up}
+use Rattle.wire_msg.specs.Message.{is_reader, goes_home, may_send, line_of, up_of, down_of, up_about, down_about, ups, downs}
 use Rattle.tile_cache.specs.Copy.{absent}
 use Rattle.dir_slice.specs.Line.{Home, fresh}
 use Rattle.dir_slice.specs.Inner.{IsWithin}
@@ -45,7 +46,7 @@ use Rattle.coherence_laws.specs.Coherence.{HasValue, IsCoherent}
 use Rattle.coherence_laws.specs.Laws.{value_by, value_then, reached, line_value, stepped_at, heard_at, value_after, value_along, AlwaysOneWriter, AlwaysCoherent, ValuesChange}
 use Rattle.coherence_laws.proofs.Phases.{away, quiet}
 use Rattle.coherence_laws.proofs.Nodes.{equal, itself}
-use Rattle.coherence_laws.proofs.Coherent.{Where, carried_at, in_memory, where_is, copy_data, one_writer}
+use Rattle.coherence_laws.proofs.Coherent.{Where, carried_at, in_memory, where_is, copy_data, reader_data, one_writer}
 use Rattle.coherence_laws.proofs.Mail.{up_or_not, option_or_none, up_nothing, down_nothing, about_other, first_said, first_silent}
 use Rattle.coherence_laws.proofs.Holds.{IsUnended, IsNodeOf, KeptIn, Holds}
 use Rattle.coherence_laws.proofs.Servers.{can_step_means, control_steps, control_apart, control_passes, control_acknowledges, control_drops}
@@ -58,7 +59,7 @@ pub record Sound (w : Setup) (s : State Node Msg) (f : ℕ → LineData) : Type 
   pub nodes : (y : ℕ) → IsNodeOf w y (s.node y)
 
 -- a message that says something of a line from its home comes from there
-from_home : (w : Setup) (s : State Node Msg) (f : ℕ → LineData) (i x : ℕ) (msg : Msg) (rest : List Msg) → Sound w s f → s.queue i x ≡ msg ∷ rest → IsFromHome w i msg
+pub from_home : (w : Setup) (s : State Node Msg) (f : ℕ → LineData) (i x : ℕ) (msg : Msg) (rest : List Msg) → Sound w s f → s.queue i x ≡ msg ∷ rest → IsFromHome w i msg
 from_home w s f i x msg rest sound waits line some =
     elim (cases_Bool (i == home_of w.config line)) [
       | inl t ↦ equal i (home_of w.config line) t
@@ -78,7 +79,7 @@ to_home w s f i x msg rest line sound waits some =
           (sym (ap (ups line) waits) ∙ (sound.lines line).placed.up i x (λ same. let a : (x == home_of w.config line) ≡ true = ap (λ z. z == home_of w.config line) same ∙ itself (home_of w.config line) in cc))).0)
     ]
 
-home_is_tile : (w : Setup) (line i : ℕ) → 0 < w.config.tiles → i ≡ home_of w.config line → i < w.config.tiles
+pub home_is_tile : (w : Setup) (line i : ℕ) → 0 < w.config.tiles → i ≡ home_of w.config line → i < w.config.tiles
 home_is_tile w line i some at = let e : i ≡ line % w.config.tiles = at in omega arith
 
 -- a tile takes a message
@@ -232,7 +233,7 @@ delivery_sound w s f i x (msg ∷ rest) sound some waits = record {
   nodes = nodes_put w (with_queue s i x rest) x (change_of (node_delivered w (s.node x) i msg)) sound.nodes (takes_node w x i msg (s.node x) (sound.nodes x));
 }
 
-steps_may : (a b c : Bool) → a && (b && c) ≡ true → c ≡ true
+pub steps_may : (a b c : Bool) → a && (b && c) ≡ true → c ≡ true
 steps_may true true c e = e
 steps_may true false c e = cc
 steps_may false b c e = cc
@@ -327,14 +328,18 @@ holds_coherent w s k v held =
       writer = λ x y writes. one_writer h.state h.memory h.waiting v n kept x y writes;
       value = stands_so w s k v (where_is h.state h.memory h.waiting v n kept);
       copies = copy_data h.state h.memory h.waiting v n kept;
+      readers = reader_data h.state h.memory h.waiting v n kept;
       messages = record { up = held.placed.up; down = held.placed.down };
     }
 
+pub reached_sound : (w : Setup) (events : List Event) → IsChecked w.config → IsRun (rules w) (node_count w.config) (start_state w) events
+    → Sound w (reached w events) (line_value w events)
+reached_sound w events checked run =
+    let range = in_range w.config checked in run_sound w (node_count w.config) events (start_state w) (initial_line w) (start_sound w checked) range.some_tile run
+
 pub reached_holds : (w : Setup) (events : List Event) (k : ℕ) → IsChecked w.config → IsRun (rules w) (node_count w.config) (start_state w) events
     → Holds w (reached w events) k (line_value w events k)
-reached_holds w events k checked run =
-    let range = in_range w.config checked in
-    (run_sound w (node_count w.config) events (start_state w) (initial_line w) (start_sound w checked) range.some_tile run).lines k
+reached_holds w events k checked run = (reached_sound w events checked run).lines k
 
 pub always_coherent : AlwaysCoherent
 always_coherent w events k checked run = holds_coherent w (reached w events) k (line_value w events k) (reached_holds w events k checked run)

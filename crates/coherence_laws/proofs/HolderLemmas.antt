@@ -7,6 +7,7 @@ use Rattle.std.specs.List.{range_with_len}
 use Rattle.std.specs.Option.{option_map}
 use Rattle.sim_base.specs.declared.lines.LineData.{LineData}
 use Rattle.sim_base.specs.Numbering.{node_count}
+use Rattle.sim_base.proofs.CheckedSettings.{in_range}
 use Rattle.elf_image.specs.Layout.{Setup}
 use Rattle.wire_msg.specs.declared.messages.Msg.{Msg}
 use Rattle.tile_cache.specs.declared.ways.Hold.{Hold}
@@ -22,7 +23,7 @@ use Rattle.node_machine.specs.Core.{CoreData, Shows, IsCore, hold_at}
 use Rattle.coherence_laws.specs.Part.{copy_at}
 use Rattle.coherence_laws.specs.Coherence.{IsWritable}
 use Rattle.coherence_laws.specs.Laws.{reached}
-use Rattle.coherence_laws.specs.Holders.{is_to_write, is_to_read, hold_in, writer_below, readers_below, writer_with, readers_with, WriterIsAlone}
+use Rattle.coherence_laws.specs.Holders.{is_to_write, is_to_read, hold_in, named_tiles, writer_below, readers_below, writer_with, readers_with, WriterIsAlone}
 use Rattle.coherence_laws.proofs.Events.{always_one_writer}
 
 -- one more tile
@@ -169,13 +170,19 @@ writer_is_alone core line w events tile checked is run shows found =
 
 -- after all tiles
 
-pub all_found : (core : CoreData) (line n end : ℕ) (writer : Option ℕ) → end ≡ core.tiles → n ≤ end → end ≤ n → writer ≡ writer_below core line n → writer ≡ writer_below core line core.tiles
-all_found core line n end writer all low high e = let same : n ≡ core.tiles = omega arith in e ∙ ap (writer_below core line) same
+pub all_found : (core : CoreData) (line n end : ℕ) (writer : Option ℕ) → end ≡ named_tiles core → n ≤ end → end ≤ n → writer ≡ writer_below core line n → writer ≡ writer_below core line (named_tiles core)
+all_found core line n end writer all low high e = let same : n ≡ end = omega (arith, low, high) in e ∙ ap (writer_below core line) (same ∙ all)
 
-pub all_counted : (core : CoreData) (line n end readers : ℕ) → end ≡ core.tiles → n ≤ end → end ≤ n → readers ≡ readers_below core line n → readers ≡ readers_below core line core.tiles
-all_counted core line n end readers all low high e = let same : n ≡ core.tiles = omega arith in e ∙ ap (readers_below core line) same
+pub all_counted : (core : CoreData) (line n end readers : ℕ) → end ≡ named_tiles core → n ≤ end → end ≤ n → readers ≡ readers_below core line n → readers ≡ readers_below core line (named_tiles core)
+all_counted core line n end readers all low high e = let same : n ≡ end = omega (arith, low, high) in e ∙ ap (readers_below core line) (same ∙ all)
 
-pub alone_so : (core : CoreData) (line : ℕ) (writer : Option ℕ) (readers : ℕ) → writer ≡ writer_below core line core.tiles → readers ≡ readers_below core line core.tiles
+-- and the tiles that can be named are all tiles of a machine of checked settings
+pub alone_so : (core : CoreData) (line : ℕ) (writer : Option ℕ) (readers : ℕ) → writer ≡ writer_below core line (named_tiles core) → readers ≡ readers_below core line (named_tiles core)
     → WriterIsAlone core line writer readers
-alone_so core line writer readers w r =
-    subst (λ z. WriterIsAlone core line z readers) (sym w) (subst (WriterIsAlone core line (writer_below core line core.tiles)) (sym r) (writer_is_alone core line))
+alone_so core line writer readers e f w events tile checked is run shows found =
+    let few : w.config.tiles ≤ 64 = (in_range w.config checked).tiles in
+    let tiles : core.tiles ≡ w.config.tiles = is.tiles in
+    let all : named_tiles core ≡ core.tiles = omega (arith, few, tiles) in
+    let writers : writer ≡ writer_below core line core.tiles = e ∙ ap (writer_below core line) all in
+    let alone = writer_is_alone core line w events tile checked is run shows (sym writers ∙ found) in
+    record { writer = alone.writer; reader = f ∙ ap (readers_below core line) all ∙ alone.reader }

@@ -14,3 +14,4 @@ pub mod Controls
 pub mod Events
 pub mod HolderLemmas
 pub mod Still
+pub mod Values

@@ -9,7 +9,10 @@ use Rattle.sim_base.specs.Numbering.{home_of}
 use Rattle.elf_image.specs.Layout.{Setup}
 use Rattle.wire_msg.specs.declared.messages.Msg.{Msg}
 use Rattle.wire_msg.specs.declared.messages.Msg.TheVariants.{GetS, GetM, PutM, InvAck, FetchAck}
-use Rattle.wire_msg.specs.Message.{Up, asks, gives_up, acknowledges, answers, line_of, up_of, down_of, is_about, up_about, down_about, ups}
+use Rattle.wire_msg.specs.declared.lines.Want.TheVariants.{Read, Write}
+use Rattle.wire_msg.specs.declared.lines.Up.{Up}
+use Rattle.wire_msg.specs.declared.lines.Up.TheVariants.{Asks, GivesUp, Acknowledges, HandsOver}
+use Rattle.wire_msg.specs.Message.{line_of, up_of, down_of, is_about, up_about, down_about, ups}
 use Rattle.tile_node.specs.Tile.{Act, Told, told_message, up_message, sent_by}
 use Rattle.tile_node.specs.OneLineLaws.{IsToldTo, IsFromHome}
 use Rattle.event_journal.specs.State.{messages_to}
@@ -52,11 +55,11 @@ down_nothing k msg e = ap (λ o. if is_about k msg then o else None) e ∙ alike
 
 -- a message says something to a home, of one line, or nothing to homes
 pub up_or_not : (msg : Msg) → ((line : ℕ) × (says : Up) × (line_of msg ≡ Some line) × (up_of msg ≡ Some says) × (down_of msg ≡ None)) ⊎ (up_of msg ≡ None)
-up_or_not (GetS line) = inl (line, asks false, refl, refl, refl)
-up_or_not (GetM line) = inl (line, asks true, refl, refl, refl)
-up_or_not (PutM line content) = inl (line, gives_up content, refl, refl, refl)
-up_or_not (InvAck line) = inl (line, acknowledges, refl, refl, refl)
-up_or_not (FetchAck line content) = inl (line, answers content, refl, refl, refl)
+up_or_not (GetS line) = inl (line, Asks Read, refl, refl, refl)
+up_or_not (GetM line) = inl (line, Asks Write, refl, refl, refl)
+up_or_not (PutM line content) = inl (line, GivesUp content, refl, refl, refl)
+up_or_not (InvAck line) = inl (line, Acknowledges, refl, refl, refl)
+up_or_not (FetchAck line content) = inl (line, HandsOver content, refl, refl, refl)
 up_or_not _ = inr refl
 
 pub option_or_none : {A : Type 0} (o : Option A) → (o ≡ None) ⊎ ((a : A) × (o ≡ Some a))
@@ -92,11 +95,11 @@ first_said about msg rest a e = ap (λ o. cons_option o (filter_map about rest))
 -- what a tile tells goes to the lines' homes, so nothing to others
 
 up_is : (k line : ℕ) (says : Up) → up_about k (up_message line says) ≡ (if line == k then Some says else None)
-up_is k line (asks false) = refl
-up_is k line (asks true) = refl
-up_is k line (gives_up content) = refl
-up_is k line acknowledges = refl
-up_is k line (answers content) = refl
+up_is k line (Asks Read) = refl
+up_is k line (Asks Write) = refl
+up_is k line (GivesUp content) = refl
+up_is k line Acknowledges = refl
+up_is k line (HandsOver content) = refl
 
 abbrev pub GoesHome : Setup → Told → Type 0
 GoesHome w told = told.to ≡ home_of w.config told.line
@@ -120,7 +123,7 @@ acts_elsewhere w act k y ne told mail =
     (All-weaker (λ (m : ℕ × Msg). up_about k m.1 ≡ None) (SaysNone (up_about k) y) (λ m none to. none) act.mail mail))
 
 pub told_home : (w : Setup) (from : ℕ) (msg : Msg) (to line : ℕ) (says : Up) → IsFromHome w from msg → IsToldTo w from msg to line says → to ≡ home_of w.config line
-told_home w from msg to line (asks write) home e = e
-told_home w from msg to line (gives_up content) home e = e
-told_home w from msg to line acknowledges home e = e.0 ∙ home line e.1
-told_home w from msg to line (answers content) home e = e.0 ∙ home line e.1
+told_home w from msg to line (Asks write) home e = e
+told_home w from msg to line (GivesUp content) home e = e
+told_home w from msg to line Acknowledges home e = e.0 ∙ home line e.1
+told_home w from msg to line (HandsOver content) home e = e.0 ∙ home line e.1

@@ -3,7 +3,10 @@ use Rattle.std.proofs.Common.{◌≡◌, ℕ, Bool, true, false, List, [], ◌�
 use Rattle.std.proofs.lemmas.Bool.{cases_Bool}
 use Rattle.sim_base.specs.declared.lines.LineData.{LineData}
 use Rattle.sim_base.specs.Settings.{default_settings}
-use Rattle.wire_msg.specs.Message.{asks, Down, gives, drops, fetches}
+use Rattle.wire_msg.specs.declared.lines.Want.{Want}
+use Rattle.wire_msg.specs.declared.lines.Want.TheVariants.{Read, Write}
+use Rattle.wire_msg.specs.declared.lines.Up.TheVariants.{Asks}
+use Rattle.wire_msg.specs.Message.{Down, gives, drops, fetches}
 use Rattle.dir_slice.specs.Line.{Request, State, Uncached, Shared, Modified, BusyInv, BusyFetch, Home, fetch, give, is_busy, invalidate, request_row}
 use Rattle.dir_slice.specs.Directory.{Step, zero_line}
 use Rattle.node_set.specs.NodeSet.{has_node, with_node, without}
@@ -46,7 +49,7 @@ stays state after waiting later v y p ds f s r e = record {
 }
 
 -- a node that this is sent to
-pub goes : (state after : State) (waiting later : List Request) (v : LineData) (y : ℕ) (p : Part) (ds ds' : List Down) (says : Standing) (ws : List Bool) (f : Fits state waiting v y p)
+pub goes : (state after : State) (waiting later : List Request) (v : LineData) (y : ℕ) (p : Part) (ds ds' : List Down) (says : Standing) (ws : List Want) (f : Fits state waiting v y p)
     → Comes v says ws (sent (part_in v f.phase) ds) → standing after y ≡ says → served after y ++ waits y later ≡ ws → ds' ≡ ds → Fits after later v y (sent p ds')
 goes state after waiting later v y p ds ds' says ws f c s r e = record {
   phase = c.phase;
@@ -55,7 +58,7 @@ goes state after waiting later v y p ds ds' says ws f c s r e = record {
   part_is = ap (sent p) e ∙ ap (λ (q : Part). sent q ds) f.part_is ∙ c.part_is;
 }
 
-pub comes_silently : (v : LineData) (says : Standing) (ws : List Bool) (p : Part) → Comes v says ws p → Comes v says ws (sent p [])
+pub comes_silently : (v : LineData) (says : Standing) (ws : List Want) (p : Part) → Comes v says ws p → Comes v says ws (sent p [])
 comes_silently v says ws p c = record { phase = c.phase; standing_is = c.standing_is; requests_are = c.requests_are; part_is = sent_nothing p ∙ c.part_is }
 
 -- the rows keep states orderly
@@ -63,41 +66,41 @@ if_free : (b : Bool) (x y : Step) → b ≡ false → StateIsOrderly (if b then 
 if_free true x y e o = cc
 if_free false x y e o = o
 
-pub row_orderly : (state : State) (write : Bool) (r : ℕ) → is_busy state ≡ false → StateIsOrderly state → StateIsOrderly (request_row state write r).state
-row_orderly state write r free o =
+pub row_orderly : (state : State) (want : Want) (r : ℕ) → is_busy state ≡ false → StateIsOrderly state → StateIsOrderly (request_row state want r).state
+row_orderly state want r free o =
     let h : Home = record { state = state; memory = zero_line; waiting = []; delay = 0 } in
-    let after = keeps_orderly default_settings 0 0 h r (asks write) (record { waits_while_busy = λ _. refl; state = o }) in
+    let after = keeps_orderly default_settings 0 0 h r (Asks want) (record { waits_while_busy = λ _. refl; state = o }) in
     if_free (is_busy state) _ _ free after.state
 
-abbrev pub request : ℕ → Bool → Request
-request r w = record { from = r; write = w }
+abbrev pub request : ℕ → Want → Request
+request r w = record { from = r; want = w }
 
-read_uncached : (m v : LineData) (r : ℕ) (rest : List Request) (n : ℕ → Part) → Kept Uncached m (request r false ∷ rest) v n
-    → Kept (Shared (r ∷ [])) m rest v (all_sent n (words m (give false r ∷ [])))
+read_uncached : (m v : LineData) (r : ℕ) (rest : List Request) (n : ℕ → Part) → Kept Uncached m (request r Read ∷ rest) v n
+    → Kept (Shared (r ∷ [])) m rest v (all_sent n (words m (give Read r ∷ [])))
 read_uncached m v r rest n k =
-    let waiting : List Request = request r false ∷ rest in
+    let waiting : List Request = request r Read ∷ rest in
     let after : State = Shared (r ∷ []) in
     record {
-      fits = λ y. let f = k.fits y in let out : List Down = words m (give false r ∷ []) y in
+      fits = λ y. let f = k.fits y in let out : List Down = words m (give Read r ∷ []) y in
           elim (cases_Bool (r == y)) [
             | inl t ↦
-                goes Uncached after waiting rest v y (n y) (gives false v ∷ []) out sharer (waits y rest) f
+                goes Uncached after waiting rest v y (n y) (gives Read v ∷ []) out sharer (waits y rest) f
                 (given_to_read v f.phase (waits y rest) (inl (sym f.standing_is)) (cc (f.requests_are))) (cc) refl (cc (k.value))
             | inr t ↦ stays Uncached after waiting rest v y (n y) out f (cc) (cc) (cc)
           ];
       value = k.value;
-      orderly = row_orderly Uncached false r refl k.orderly;
+      orderly = row_orderly Uncached Read r refl k.orderly;
     }
 
-write_uncached : (m v : LineData) (r : ℕ) (rest : List Request) (n : ℕ → Part) → Kept Uncached m (request r true ∷ rest) v n
-    → Kept (Modified r) m rest v (all_sent n (words m (give true r ∷ [])))
+write_uncached : (m v : LineData) (r : ℕ) (rest : List Request) (n : ℕ → Part) → Kept Uncached m (request r Write ∷ rest) v n
+    → Kept (Modified r) m rest v (all_sent n (words m (give Write r ∷ [])))
 write_uncached m v r rest n k =
-    let waiting : List Request = request r true ∷ rest in
+    let waiting : List Request = request r Write ∷ rest in
     record {
-      fits = λ y. let f = k.fits y in let out : List Down = words m (give true r ∷ []) y in
+      fits = λ y. let f = k.fits y in let out : List Down = words m (give Write r ∷ []) y in
           elim (cases_Bool (r == y)) [
             | inl t ↦
-                goes Uncached (Modified r) waiting rest v y (n y) (gives true v ∷ []) out (owner None) (waits y rest) f
+                goes Uncached (Modified r) waiting rest v y (n y) (gives Write v ∷ []) out (owner None) (waits y rest) f
                 (given_to_write v f.phase (waits y rest) (inl (sym f.standing_is)) (cc (f.requests_are))) (cc) refl (cc (k.value))
             | inr t ↦ stays Uncached (Modified r) waiting rest v y (n y) out f (cc) (cc) (cc)
           ];
@@ -105,33 +108,33 @@ write_uncached m v r rest n k =
       orderly = tt;
     }
 
-read_shared : (m v : LineData) (r : ℕ) (xs : List ℕ) (rest : List Request) (n : ℕ → Part) → Kept (Shared xs) m (request r false ∷ rest) v n
-    → Kept (Shared (with_node r xs)) m rest v (all_sent n (words m (give false r ∷ [])))
+read_shared : (m v : LineData) (r : ℕ) (xs : List ℕ) (rest : List Request) (n : ℕ → Part) → Kept (Shared xs) m (request r Read ∷ rest) v n
+    → Kept (Shared (with_node r xs)) m rest v (all_sent n (words m (give Read r ∷ [])))
 read_shared m v r xs rest n k =
-    let waiting : List Request = request r false ∷ rest in
+    let waiting : List Request = request r Read ∷ rest in
     let after : State = Shared (with_node r xs) in
     record {
-      fits = λ y. let f = k.fits y in let a = has_with_node r y xs in let out : List Down = words m (give false r ∷ []) y in
+      fits = λ y. let f = k.fits y in let a = has_with_node r y xs in let out : List Down = words m (give Read r ∷ []) y in
           elim (cases_Bool (r == y)) [
             | inl t ↦
-                goes (Shared xs) after waiting rest v y (n y) (gives false v ∷ []) out sharer (waits y rest) f
+                goes (Shared xs) after waiting rest v y (n y) (gives Read v ∷ []) out sharer (waits y rest) f
                 (given_to_read v f.phase (waits y rest) (elim (cases_Bool (has_node y xs)) [ inl u ↦ inr (cc (f.standing_is)) | inr u ↦ inl (cc (f.standing_is)) ]) (cc (f.requests_are)))
                 (cc) refl (cc (k.value))
             | inr t ↦ stays (Shared xs) after waiting rest v y (n y) out f (cc) (cc) (cc)
           ];
       value = k.value;
-      orderly = row_orderly (Shared xs) false r refl k.orderly;
+      orderly = row_orderly (Shared xs) Read r refl k.orderly;
     }
 
 write_shared : (m v : LineData) (r : ℕ) (xs ys : List ℕ) (rest : List Request) (n : ℕ → Part) → without r xs ≡ ys → StateIsOrderly (invalidate r ys).state
-    → Kept (Shared xs) m (request r true ∷ rest) v n → Kept (invalidate r ys).state m rest v (all_sent n (words m (invalidate r ys).sent))
+    → Kept (Shared xs) m (request r Write ∷ rest) v n → Kept (invalidate r ys).state m rest v (all_sent n (words m (invalidate r ys).sent))
 write_shared m v r xs [] rest n e o k =
-    let waiting : List Request = request r true ∷ rest in
+    let waiting : List Request = request r Write ∷ rest in
     record {
-      fits = λ y. let f = k.fits y in let a = has_without r y xs in let out : List Down = words m (give true r ∷ []) y in
+      fits = λ y. let f = k.fits y in let a = has_without r y xs in let out : List Down = words m (give Write r ∷ []) y in
           elim (cases_Bool (r == y)) [
             | inl t ↦
-                goes (Shared xs) (Modified r) waiting rest v y (n y) (gives true v ∷ []) out (owner None) (waits y rest) f
+                goes (Shared xs) (Modified r) waiting rest v y (n y) (gives Write v ∷ []) out (owner None) (waits y rest) f
                 (given_to_write v f.phase (waits y rest) (elim (cases_Bool (has_node y xs)) [ inl u ↦ inr (inl (cc (f.standing_is))) | inr u ↦ inl (cc (f.standing_is)) ]) (cc (f.requests_are)))
                 (cc) refl (cc (k.value))
             | inr t ↦ stays (Shared xs) (Modified r) waiting rest v y (n y) out f (cc) (cc) (cc)
@@ -140,7 +143,7 @@ write_shared m v r xs [] rest n e o k =
       orderly = o;
     }
 write_shared m v r xs (z ∷ zs) rest n e o k =
-    let waiting : List Request = request r true ∷ rest in
+    let waiting : List Request = request r Write ∷ rest in
     let after : State = BusyInv r (z ∷ zs) in
     record {
       fits = λ y. let f = k.fits y in
@@ -148,8 +151,8 @@ write_shared m v r xs (z ∷ zs) rest n e o k =
           elim (cases_Bool (r == y)) [
             | inl t ↦
                 let out = drops_out m y (z ∷ zs) (cc) in
-                goes (Shared xs) after waiting rest v y (n y) [] _ upgrader (true ∷ waits y rest) f
-                (comes_silently v upgrader (true ∷ waits y rest) (part_in v f.phase)
+                goes (Shared xs) after waiting rest v y (n y) [] _ upgrader (Write ∷ waits y rest) f
+                (comes_silently v upgrader (Write ∷ waits y rest) (part_in v f.phase)
                 (waits_to_write v f.phase (waits y rest) (elim (cases_Bool (has_node y xs)) [ inl u ↦ inr (cc (f.standing_is)) | inr u ↦ inl (cc (f.standing_is)) ]) (cc (f.requests_are))))
                 (cc) (cc) out
             | inr t ↦ elim (cases_Bool (has_node y xs)) [
@@ -166,7 +169,7 @@ write_shared m v r xs (z ∷ zs) rest n e o k =
       orderly = o;
     }
 
-fetch_owned : (m v : LineData) (r o : ℕ) (w : Bool) (rest : List Request) (n : ℕ → Part) → Kept (Modified o) m (request r w ∷ rest) v n
+fetch_owned : (m v : LineData) (r o : ℕ) (w : Want) (rest : List Request) (n : ℕ → Part) → Kept (Modified o) m (request r w ∷ rest) v n
     → Kept (BusyFetch w r o) m rest v (all_sent n (words m (fetch w o ∷ [])))
 fetch_owned m v r o w rest n k =
     let waiting : List Request = request r w ∷ rest in
@@ -189,12 +192,12 @@ fetch_owned m v r o w rest n k =
     }
 
 -- each row of a request keeps it
-pub serve : (state : State) (m v : LineData) (r : ℕ) (w : Bool) (rest : List Request) (n : ℕ → Part) → is_busy state ≡ false → Kept state m (request r w ∷ rest) v n
+pub serve : (state : State) (m v : LineData) (r : ℕ) (w : Want) (rest : List Request) (n : ℕ → Part) → is_busy state ≡ false → Kept state m (request r w ∷ rest) v n
     → Kept (request_row state w r).state m rest v (all_sent n (words m (request_row state w r).sent))
-serve Uncached m v r false rest n b k = read_uncached m v r rest n k
-serve Uncached m v r true rest n b k = write_uncached m v r rest n k
-serve (Shared xs) m v r false rest n b k = read_shared m v r xs rest n k
-serve (Shared xs) m v r true rest n b k = write_shared m v r xs (without r xs) rest n refl (row_orderly (Shared xs) true r refl k.orderly) k
+serve Uncached m v r Read rest n b k = read_uncached m v r rest n k
+serve Uncached m v r Write rest n b k = write_uncached m v r rest n k
+serve (Shared xs) m v r Read rest n b k = read_shared m v r xs rest n k
+serve (Shared xs) m v r Write rest n b k = write_shared m v r xs (without r xs) rest n refl (row_orderly (Shared xs) Write r refl k.orderly) k
 serve (Modified o) m v r w rest n b k = fetch_owned m v r o w rest n k
 serve (BusyInv q left) m v r w rest n b k = cc
 serve (BusyFetch u q o) m v r w rest n b k = cc

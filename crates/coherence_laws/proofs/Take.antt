@@ -5,14 +5,18 @@ use Rattle.std.proofs.lemmas.List.{map-append}
 use Rattle.std.proofs.lemmas.List.Elements.{filter-append, filter_map-append}
 use Rattle.std.specs.Prelude.{Option, map, filter}
 use Rattle.std.specs.List.{cons_option}
+use Rattle.std.specs.Option.{option_map}
 use Rattle.sim_base.specs.declared.lines.LineData.{LineData}
 use Rattle.sim_base.specs.declared.settings.Config.{Config}
 use Rattle.sim_base.specs.Settings.{default_settings}
-use Rattle.mesh_model.specs.Cost.{delay_of}
 use Rattle.wire_msg.specs.declared.messages.Msg.{Msg}
-use Rattle.wire_msg.specs.Message.{Up, asks, gives_up, acknowledges, answers, Down, gives, down_about, downs}
-use Rattle.dir_slice.specs.Line.{Request, State, Uncached, Shared, Modified, BusyInv, BusyFetch, Home, Row, Sent, drop_copy, fetch, give, same, is_busy, request_row, ack_row, acked_by, fetch_row, fetched_by, put_row, put_by, awaited}
-use Rattle.dir_slice.specs.Directory.{Mail, Step, message, farthest, in_row, taken_up, before_mail, settled, settle, with_data, reaction, home_after, mail_of, zero_line}
+use Rattle.wire_msg.specs.declared.lines.Want.{Want}
+use Rattle.wire_msg.specs.declared.lines.Want.TheVariants.{Read, Write}
+use Rattle.wire_msg.specs.declared.lines.Up.{Up}
+use Rattle.wire_msg.specs.declared.lines.Up.TheVariants.{Asks, GivesUp, Acknowledges, HandsOver}
+use Rattle.wire_msg.specs.Message.{Down, gives, down_about, downs}
+use Rattle.dir_slice.specs.Line.{Request, State, Uncached, Shared, Modified, BusyInv, BusyFetch, Home, Row, Sent, drop_copy, fetch, give, same, is_busy, request_row, ack_row, acked_by, fetch_row, fetched_by, put_row, put_by, memory_after}
+use Rattle.dir_slice.specs.Directory.{Mail, Step, message, fixed_delay, in_row, taken_up, before_mail, settled, settle, after_row, requested, reaction, home_after, mail_of, zero_line}
 use Rattle.node_set.specs.NodeSet.{has_node, with_node, without}
 use Rattle.dir_slice.specs.Laws.{StateIsOrderly}
 use Rattle.dir_slice.proofs.Orderly.{keeps_orderly}
@@ -66,7 +70,7 @@ both state waiting v x p out n f g y =
       | inr t ↦ fits_at (all_sent (with_part x p n) out y) (g y t) (ap (λ (q : Part). sent q (out y)) (part_there x y p n t))
     ]
 
-own : (state after : State) (waiting later : List Request) (v : LineData) (x : ℕ) (p : Part) (us : List Up) (ds : List Down) (says : Standing) (ws : List Bool) (f : Fits state waiting v x p)
+own : (state after : State) (waiting later : List Request) (v : LineData) (x : ℕ) (p : Part) (us : List Up) (ds : List Down) (says : Standing) (ws : List Want) (f : Fits state waiting v x p)
     → Comes v says ws (with_up (part_in v f.phase) us) → standing after x ≡ says → served after x ++ waits x later ≡ ws → ds ≡ [] → Fits after later v x (sent (with_up p us) ds)
 own state after waiting later v x p us ds says ws f c s r e = record {
   phase = c.phase;
@@ -80,18 +84,18 @@ up_is v state waiting x p u us f e = sym (ap (λ (q : Part). q.up) f.part_is) �
 
 -- a request comes to wait
 
-waits_more : (y r : ℕ) (w : Bool) (waiting : List Request) → waits y (waiting ++ request r w ∷ []) ≡ waits y waiting ++ (if r == y then w ∷ [] else [])
+waits_more : (y r : ℕ) (w : Want) (waiting : List Request) → waits y (waiting ++ request r w ∷ []) ≡ waits y waiting ++ (if r == y then w ∷ [] else [])
 waits_more y r w [] = elim (cases_Bool (r == y)) [ inl t ↦ cc | inr t ↦ cc ]
 waits_more y r w (q ∷ rest) = let ih = waits_more y r w rest in elim (cases_Bool (q.from == y)) [ inl t ↦ cc | inr t ↦ cc ]
 
-longer : (s w w' more all : List Bool) → s ++ w ≡ all → w' ≡ w ++ more → s ++ w' ≡ all ++ more
+longer : (s w w' more all : List Want) → s ++ w ≡ all → w' ≡ w ++ more → s ++ w' ≡ all ++ more
 longer s w w' more all e f = ap (λ l. s ++ l) f ∙ sym (append_assoc s w more) ∙ ap (λ l. l ++ more) e
 
-took_ask : (state : State) (memory : LineData) (waiting : List Request) (v : LineData) (x : ℕ) (w : Bool) (us : List Up) (n : ℕ → Part) → Kept state memory waiting v n
-    → (n x).up ≡ asks w ∷ us → Kept state memory (waiting ++ request x w ∷ []) v (with_part x (with_up (n x) us) n)
+took_ask : (state : State) (memory : LineData) (waiting : List Request) (v : LineData) (x : ℕ) (w : Want) (us : List Up) (n : ℕ → Part) → Kept state memory waiting v n
+    → (n x).up ≡ Asks w ∷ us → Kept state memory (waiting ++ request x w ∷ []) v (with_part x (with_up (n x) us) n)
 took_ask state memory waiting v x w us n k e =
     let f = k.fits x in
-    let g = took_request v f.phase w us (up_is v state waiting x (n x) (asks w) us f e) in
+    let g = took_request v f.phase w us (up_is v state waiting x (n x) (Asks w) us f e) in
     let later : List Request = waiting ++ request x w ∷ [] in
     let more = waits_more x x w waiting in
     let none : served state x ++ waits x waiting ≡ [] = f.requests_are ∙ g.0 in
@@ -132,7 +136,7 @@ owner_state (Modified o) x e = elim (cases_Bool (o == x)) [ inl t ↦ ap Modifie
 owner_state (BusyInv r left) x e = elim (cases_Bool (r == x)) [ inl t ↦ cc | inr t ↦ elim (cases_Bool (has_node x left)) [ inl u ↦ cc | inr u ↦ cc ] ]
 owner_state (BusyFetch w r o) x e = elim (cases_Bool (o == x)) [ inl t ↦ cc | inr t ↦ cc ]
 
-fetched_state : (state : State) (x : ℕ) (f : Bool) → standing state x ≡ owner (Some f) → (r : ℕ) × (state ≡ BusyFetch f r x)
+fetched_state : (state : State) (x : ℕ) (f : Want) → standing state x ≡ owner (Some f) → (r : ℕ) × (state ≡ BusyFetch f r x)
 fetched_state Uncached x f e = cc
 fetched_state (Shared xs) x f e = elim (cases_Bool (has_node x xs)) [ inl t ↦ cc | inr t ↦ cc ]
 fetched_state (Modified o) x f e = elim (cases_Bool (o == x)) [ inl t ↦ cc | inr t ↦ cc ]
@@ -144,15 +148,15 @@ fetched_state (BusyFetch w r o) x f e =
 ack_orderly : (r x : ℕ) (left : List ℕ) → StateIsOrderly (BusyInv r left) → StateIsOrderly (acked_by r (without x left)).state
 ack_orderly r x left o =
     let h : Home = record { state = BusyInv r left; memory = zero_line; waiting = []; delay = 0 } in
-    (keeps_orderly default_settings 0 0 h x acknowledges (record { waits_while_busy = λ _. refl; state = o })).state
+    (keeps_orderly default_settings 0 0 h x Acknowledges (record { waits_while_busy = λ _. refl; state = o })).state
 
-took_acked : (m v : LineData) (x r : ℕ) (left rest : List ℕ) (waiting : List Request) (us : List Up) (n : ℕ → Part) → Kept (BusyInv r left) m waiting v n → (n x).up ≡ acknowledges ∷ us
+took_acked : (m v : LineData) (x r : ℕ) (left rest : List ℕ) (waiting : List Request) (us : List Up) (n : ℕ → Part) → Kept (BusyInv r left) m waiting v n → (n x).up ≡ Acknowledges ∷ us
     → (r == x) ≡ false → without x left ≡ rest → StateIsOrderly (acked_by r rest).state
     → Kept (acked_by r rest).state m waiting v (all_sent (with_part x (with_up (n x) us) n) (words m (acked_by r rest).sent))
 took_acked m v x r left [] waiting us n k e rx z o =
     let f = k.fits x in
-    let g = took_ack v f.phase us (up_is v (BusyInv r left) waiting x (n x) acknowledges us f e) in
-    let out : ℕ → List Down = words m (give true r ∷ []) in
+    let g = took_ack v f.phase us (up_is v (BusyInv r left) waiting x (n x) Acknowledges us f e) in
+    let out : ℕ → List Down = words m (give Write r ∷ []) in
     record {
       fits =
           both (Modified r) waiting v x (with_up (n x) us) out n
@@ -160,7 +164,7 @@ took_acked m v x r left [] waiting us n k e rx z o =
           (λ y xy. let h = k.fits y in let a = has_without x y left in
           elim (cases_Bool (r == y)) [
             | inl t ↦
-                goes (BusyInv r left) (Modified r) waiting waiting v y (n y) (gives true v ∷ []) (out y) (owner None) (waits y waiting) h
+                goes (BusyInv r left) (Modified r) waiting waiting v y (n y) (gives Write v ∷ []) (out y) (owner None) (waits y waiting) h
                 (given_to_write v h.phase (waits y waiting) (inr (inr (cc (h.standing_is)))) (cc (h.requests_are))) (cc) refl (cc (k.value))
             | inr t ↦ stays (BusyInv r left) (Modified r) waiting waiting v y (n y) (out y) h (cc) (cc) (cc)
           ]);
@@ -169,7 +173,7 @@ took_acked m v x r left [] waiting us n k e rx z o =
     }
 took_acked m v x r left (z ∷ zs) waiting us n k e rx w o =
     let f = k.fits x in
-    let g = took_ack v f.phase us (up_is v (BusyInv r left) waiting x (n x) acknowledges us f e) in
+    let g = took_ack v f.phase us (up_is v (BusyInv r left) waiting x (n x) Acknowledges us f e) in
     let after : State = BusyInv r (z ∷ zs) in
     let self = itself x in
     let b : has_node x (z ∷ zs) ≡ (if x == x then false else has_node x left) = ap (has_node x) (sym w) ∙ has_without x x left in
@@ -188,11 +192,11 @@ took_acked m v x r left (z ∷ zs) waiting us n k e rx w o =
     }
 
 -- a line that was given up
-took_given : (m v d : LineData) (x : ℕ) (waiting : List Request) (us : List Up) (n : ℕ → Part) → Kept (Modified x) m waiting v n → (n x).up ≡ gives_up d ∷ us
+took_given : (m v d : LineData) (x : ℕ) (waiting : List Request) (us : List Up) (n : ℕ → Part) → Kept (Modified x) m waiting v n → (n x).up ≡ GivesUp d ∷ us
     → Kept Uncached d waiting v (all_sent (with_part x (with_up (n x) us) n) (words d []))
 took_given m v d x waiting us n k e =
     let f = k.fits x in
-    let g = took_put v f.phase d us (up_is v (Modified x) waiting x (n x) (gives_up d) us f e) in
+    let g = took_put v f.phase d us (up_is v (Modified x) waiting x (n x) (GivesUp d) us f e) in
     record {
       fits =
           both Uncached waiting v x (with_up (n x) us) (words d []) n
@@ -203,96 +207,96 @@ took_given m v d x waiting us n k e =
     }
 
 -- who asked for the line that is fetched isn't its owner
-other_asks : (v : LineData) (w : Bool) (r x : ℕ) (waiting : List Request) (p : Part) (f : Fits (BusyFetch w r x) waiting v x p) → requests_of f.phase ≡ [] → (r == x) ≡ false
+other_asks : (v : LineData) (w : Want) (r x : ℕ) (waiting : List Request) (p : Part) (f : Fits (BusyFetch w r x) waiting v x p) → requests_of f.phase ≡ [] → (r == x) ≡ false
 other_asks v w r x waiting p f e = elim (cases_Bool (r == x)) [ inl t ↦ (let h = f.requests_are in cc) | inr t ↦ t ]
 
-took_given_fetched : (m v d : LineData) (x r : ℕ) (w : Bool) (waiting : List Request) (us : List Up) (n : ℕ → Part) → Kept (BusyFetch w r x) m waiting v n → (n x).up ≡ gives_up d ∷ us
+took_given_fetched : (m v d : LineData) (x r : ℕ) (w : Want) (waiting : List Request) (us : List Up) (n : ℕ → Part) → Kept (BusyFetch w r x) m waiting v n → (n x).up ≡ GivesUp d ∷ us
     → Kept (put_by w r).state d waiting v (all_sent (with_part x (with_up (n x) us) n) (words d (put_by w r).sent))
-took_given_fetched m v d x r false waiting us n k e =
+took_given_fetched m v d x r Read waiting us n k e =
     let f = k.fits x in
-    let g = took_put v f.phase d us (up_is v (BusyFetch false r x) waiting x (n x) (gives_up d) us f e) in
+    let g = took_put v f.phase d us (up_is v (BusyFetch Read r x) waiting x (n x) (GivesUp d) us f e) in
     let after : State = Shared (r ∷ []) in
-    let out : ℕ → List Down = words d (give false r ∷ []) in
-    let rx : (r == x) ≡ false = other_asks v false r x waiting (n x) f g.1 in
+    let out : ℕ → List Down = words d (give Read r ∷ []) in
+    let rx : (r == x) ≡ false = other_asks v Read r x waiting (n x) f g.1 in
     record {
       fits =
           both after waiting v x (with_up (n x) us) out n
-          (own (BusyFetch false r x) after waiting waiting v x (n x) us (out x) stranger [] f g.3 (cc) (cc (f.requests_are, g.1)) (cc))
+          (own (BusyFetch Read r x) after waiting waiting v x (n x) us (out x) stranger [] f g.3 (cc) (cc (f.requests_are, g.1)) (cc))
           (λ y xy. let h = k.fits y in
           elim (cases_Bool (r == y)) [
             | inl t ↦
-                goes (BusyFetch false r x) after waiting waiting v y (n y) (gives false v ∷ []) (out y) sharer (waits y waiting) h
+                goes (BusyFetch Read r x) after waiting waiting v y (n y) (gives Read v ∷ []) (out y) sharer (waits y waiting) h
                 (given_to_read v h.phase (waits y waiting) (inl (cc (h.standing_is))) (cc (h.requests_are))) (cc) refl (cc (g.0))
-            | inr t ↦ stays (BusyFetch false r x) after waiting waiting v y (n y) (out y) h (cc) (cc) (cc)
+            | inr t ↦ stays (BusyFetch Read r x) after waiting waiting v y (n y) (out y) h (cc) (cc) (cc)
           ]);
       value = g.0;
       orderly = (tt, tt);
     }
-took_given_fetched m v d x r true waiting us n k e =
+took_given_fetched m v d x r Write waiting us n k e =
     let f = k.fits x in
-    let g = took_put v f.phase d us (up_is v (BusyFetch true r x) waiting x (n x) (gives_up d) us f e) in
-    let out : ℕ → List Down = words d (give true r ∷ []) in
-    let rx : (r == x) ≡ false = other_asks v true r x waiting (n x) f g.1 in
+    let g = took_put v f.phase d us (up_is v (BusyFetch Write r x) waiting x (n x) (GivesUp d) us f e) in
+    let out : ℕ → List Down = words d (give Write r ∷ []) in
+    let rx : (r == x) ≡ false = other_asks v Write r x waiting (n x) f g.1 in
     record {
       fits =
           both (Modified r) waiting v x (with_up (n x) us) out n
-          (own (BusyFetch true r x) (Modified r) waiting waiting v x (n x) us (out x) stranger [] f g.3 (cc) (cc (f.requests_are, g.1)) (cc))
+          (own (BusyFetch Write r x) (Modified r) waiting waiting v x (n x) us (out x) stranger [] f g.3 (cc) (cc (f.requests_are, g.1)) (cc))
           (λ y xy. let h = k.fits y in
           elim (cases_Bool (r == y)) [
             | inl t ↦
-                goes (BusyFetch true r x) (Modified r) waiting waiting v y (n y) (gives true v ∷ []) (out y) (owner None) (waits y waiting) h
+                goes (BusyFetch Write r x) (Modified r) waiting waiting v y (n y) (gives Write v ∷ []) (out y) (owner None) (waits y waiting) h
                 (given_to_write v h.phase (waits y waiting) (inl (cc (h.standing_is))) (cc (h.requests_are))) (cc) refl (cc (g.0))
-            | inr t ↦ stays (BusyFetch true r x) (Modified r) waiting waiting v y (n y) (out y) h (cc) (cc) (cc)
+            | inr t ↦ stays (BusyFetch Write r x) (Modified r) waiting waiting v y (n y) (out y) h (cc) (cc) (cc)
           ]);
       value = tt;
       orderly = tt;
     }
 
 -- an answer to a fetch
-took_answered : (m v d : LineData) (x r : ℕ) (w : Bool) (waiting : List Request) (us : List Up) (n : ℕ → Part) → Kept (BusyFetch w r x) m waiting v n → (n x).up ≡ answers d ∷ us
+took_answered : (m v d : LineData) (x r : ℕ) (w : Want) (waiting : List Request) (us : List Up) (n : ℕ → Part) → Kept (BusyFetch w r x) m waiting v n → (n x).up ≡ HandsOver d ∷ us
     → Kept (fetched_by w r x).state d waiting v (all_sent (with_part x (with_up (n x) us) n) (words d (fetched_by w r x).sent))
-took_answered m v d x r false waiting us n k e =
+took_answered m v d x r Read waiting us n k e =
     let f = k.fits x in
-    let g = took_answer v f.phase d us (up_is v (BusyFetch false r x) waiting x (n x) (answers d) us f e) in
+    let g = took_answer v f.phase d us (up_is v (BusyFetch Read r x) waiting x (n x) (HandsOver d) us f e) in
     let after : State = Shared (with_node r (x ∷ [])) in
-    let out : ℕ → List Down = words d (give false r ∷ []) in
-    let rx : (r == x) ≡ false = other_asks v false r x waiting (n x) f g.1 in
+    let out : ℕ → List Down = words d (give Read r ∷ []) in
+    let rx : (r == x) ≡ false = other_asks v Read r x waiting (n x) f g.1 in
     let self = itself x in
-    let is : g.2.0 ≡ false = let a = f.standing_is in let b = g.2.1 in cc in
+    let is : g.2.0 ≡ Read = let a = f.standing_is in let b = g.2.1 in cc in
     let gx : Comes v sharer [] (with_up (part_in v f.phase) us) = subst (λ u. Comes v (after_answer u) [] (with_up (part_in v f.phase) us)) is g.2.2 in
     let ax = has_with_node r x (x ∷ []) in
     record {
       fits =
           both after waiting v x (with_up (n x) us) out n
-          (own (BusyFetch false r x) after waiting waiting v x (n x) us (out x) sharer [] f gx (cc) (cc (f.requests_are, g.1)) (cc))
+          (own (BusyFetch Read r x) after waiting waiting v x (n x) us (out x) sharer [] f gx (cc) (cc (f.requests_are, g.1)) (cc))
           (λ y xy. let h = k.fits y in let ay = has_with_node r y (x ∷ []) in
           elim (cases_Bool (r == y)) [
             | inl t ↦
-                goes (BusyFetch false r x) after waiting waiting v y (n y) (gives false v ∷ []) (out y) sharer (waits y waiting) h
+                goes (BusyFetch Read r x) after waiting waiting v y (n y) (gives Read v ∷ []) (out y) sharer (waits y waiting) h
                 (given_to_read v h.phase (waits y waiting) (inl (cc (h.standing_is))) (cc (h.requests_are))) (cc) refl (cc (g.0))
-            | inr t ↦ stays (BusyFetch false r x) after waiting waiting v y (n y) (out y) h (cc) (cc) (cc)
+            | inr t ↦ stays (BusyFetch Read r x) after waiting waiting v y (n y) (out y) h (cc) (cc) (cc)
           ]);
       value = g.0;
-      orderly = row_orderly (Shared (x ∷ [])) false r refl (tt, tt);
+      orderly = row_orderly (Shared (x ∷ [])) Read r refl (tt, tt);
     }
-took_answered m v d x r true waiting us n k e =
+took_answered m v d x r Write waiting us n k e =
     let f = k.fits x in
-    let g = took_answer v f.phase d us (up_is v (BusyFetch true r x) waiting x (n x) (answers d) us f e) in
-    let out : ℕ → List Down = words d (give true r ∷ []) in
-    let rx : (r == x) ≡ false = other_asks v true r x waiting (n x) f g.1 in
+    let g = took_answer v f.phase d us (up_is v (BusyFetch Write r x) waiting x (n x) (HandsOver d) us f e) in
+    let out : ℕ → List Down = words d (give Write r ∷ []) in
+    let rx : (r == x) ≡ false = other_asks v Write r x waiting (n x) f g.1 in
     let self = itself x in
-    let is : g.2.0 ≡ true = let a = f.standing_is in let b = g.2.1 in cc in
+    let is : g.2.0 ≡ Write = let a = f.standing_is in let b = g.2.1 in cc in
     let gx : Comes v stranger [] (with_up (part_in v f.phase) us) = subst (λ u. Comes v (after_answer u) [] (with_up (part_in v f.phase) us)) is g.2.2 in
     record {
       fits =
           both (Modified r) waiting v x (with_up (n x) us) out n
-          (own (BusyFetch true r x) (Modified r) waiting waiting v x (n x) us (out x) stranger [] f gx (cc) (cc (f.requests_are, g.1)) (cc))
+          (own (BusyFetch Write r x) (Modified r) waiting waiting v x (n x) us (out x) stranger [] f gx (cc) (cc (f.requests_are, g.1)) (cc))
           (λ y xy. let h = k.fits y in
           elim (cases_Bool (r == y)) [
             | inl t ↦
-                goes (BusyFetch true r x) (Modified r) waiting waiting v y (n y) (gives true v ∷ []) (out y) (owner None) (waits y waiting) h
+                goes (BusyFetch Write r x) (Modified r) waiting waiting v y (n y) (gives Write v ∷ []) (out y) (owner None) (waits y waiting) h
                 (given_to_write v h.phase (waits y waiting) (inl (cc (h.standing_is))) (cc (h.requests_are))) (cc) refl (cc (g.0))
-            | inr t ↦ stays (BusyFetch true r x) (Modified r) waiting waiting v y (n y) (out y) h (cc) (cc) (cc)
+            | inr t ↦ stays (BusyFetch Write r x) (Modified r) waiting waiting v y (n y) (out y) h (cc) (cc) (cc)
           ]);
       value = tt;
       orderly = tt;
@@ -311,17 +315,15 @@ said_to_append line a b y =
 
 message_to : (line : ℕ) (h : Home) (s : Sent) → (message line h s).0 ≡ receiver s
 message_to line h (drop_copy to) = refl
-message_to line h (fetch false to) = refl
-message_to line h (fetch true to) = refl
-message_to line h (give false to) = refl
-message_to line h (give true to) = refl
+message_to line h (fetch want to) = refl
+message_to line h (give want to) = refl
 
 message_says : (line : ℕ) (h : Home) (s : Sent) → down_about line (message line h s).1 ≡ Some (said h.memory s)
 message_says line h (drop_copy to) = cond-true (line == line) _ None (itself line)
-message_says line h (fetch false to) = cond-true (line == line) _ None (itself line)
-message_says line h (fetch true to) = cond-true (line == line) _ None (itself line)
-message_says line h (give false to) = cond-true (line == line) _ None (itself line)
-message_says line h (give true to) = cond-true (line == line) _ None (itself line)
+message_says line h (fetch Read to) = cond-true (line == line) _ None (itself line)
+message_says line h (fetch Write to) = cond-true (line == line) _ None (itself line)
+message_says line h (give Read to) = cond-true (line == line) _ None (itself line)
+message_says line h (give Write to) = cond-true (line == line) _ None (itself line)
 
 first_said : (line y : ℕ) (m : ℕ × Msg) (mail : Mail) → said_to line (m ∷ mail) y ≡ (if m.0 == y then cons_option (down_about line m.1) (said_to line mail y) else said_to line mail y)
 first_said line y m mail = elim (cases_Bool (m.0 == y)) [ inl e ↦ rw e refl | inr e ↦ rw e refl ]
@@ -355,22 +357,23 @@ none_sent line v n h k = kept_at (all_sent n (said_to line [])) k (λ y. sent_no
 row_kept : (line : ℕ) (v : LineData) (n : ℕ → Part) (h : Home) (row : Row) → Kept row.state h.memory h.waiting v (all_sent n (words h.memory row.sent)) → KeptBy line v n (in_row line h row)
 row_kept line v n h row k = kept_at (all_sent n (said_to line (map (message line h) row.sent))) k (λ y. ap (sent (n y)) (row_said line h row.sent y))
 
+-- a request whose turn has come is taken up
+takes_up : (c : Config) (tile line : ℕ) (v : LineData) (h : Home) (q : Request) (rest : List Request) (n : ℕ → Part) → is_busy h.state ≡ false → Kept h.state h.memory (q ∷ rest) v n
+    → Kept (request_row h.state q.want q.from).state h.memory rest v (all_sent n (said_to line (taken_up c tile line h q).mail))
+takes_up c tile line v h q rest n free k =
+    let row : Row = request_row h.state q.want q.from in
+    kept_at (all_sent n (said_to line (taken_up c tile line h q).mail)) (serve h.state h.memory v q.from q.want rest n free k)
+    (λ y. ap (sent (n y)) (row_said line (record h { delay = fixed_delay c tile q.from row.state }) row.sent y))
+
 -- what waits is taken up in order
 settles : (c : Config) (tile line : ℕ) (v : LineData) (requests : List Request) (h : Home) (n : ℕ → Part) → Kept h.state h.memory requests v n → KeptBy line v n (settled c tile line h requests)
 settles c tile line v [] h n k = none_sent line v n (record h { waiting = [] }) k
 settles c tile line v (q ∷ rest) h n k =
-    let row : Row = request_row h.state q.write q.from in
-    let with_delay : Home = record h { delay = delay_of c q.from tile (farthest c tile (awaited row.state)) } in
     let first : Step = taken_up c tile line h q in
     let after : Step = settled c tile line first.home rest in
     kept_if line v n (is_busy h.state) (record { home = record h { waiting = q ∷ rest }; mail = [] }) (before_mail first.mail after)
     (λ busy. none_sent line v n (record h { waiting = q ∷ rest }) k)
-    (λ free.
-    let served_now : Kept row.state h.memory rest v (all_sent n (words h.memory row.sent)) = serve h.state h.memory v q.from q.write rest n free k in
-    let first_kept : Kept row.state h.memory rest v (all_sent n (said_to line first.mail)) =
-    kept_at (all_sent n (said_to line first.mail)) served_now (λ y. ap (sent (n y)) (row_said line with_delay row.sent y))
-    in
-    kept_then line v n first.mail after (settles c tile line v rest first.home (all_sent n (said_to line first.mail)) first_kept))
+    (λ free. kept_then line v n first.mail after (settles c tile line v rest first.home (all_sent n (said_to line first.mail)) (takes_up c tile line v h q rest n free k)))
 
 settle_kept : (c : Config) (tile line : ℕ) (v : LineData) (n : ℕ → Part) (step : Step) → KeptBy line v n step → KeptBy line v n (settle c tile line step)
 settle_kept c tile line v n step k =
@@ -382,44 +385,56 @@ abbrev pub KeptAfter : ℕ → LineData → (ℕ → Part) → Home → Option S
 KeptAfter line v n h step =
     Kept (home_after h step).state (home_after h step).memory (home_after h step).waiting v (all_sent n (said_to line (mail_of step)))
 
-row_after : (c : Config) (tile line : ℕ) (v : LineData) (n : ℕ → Part) (h : Home) (content : LineData) (found : Option Row) (row : Row) → found ≡ Some row
-    → Kept row.state content h.waiting v (all_sent n (words content row.sent)) → KeptAfter line v n h (with_data c tile line h content found)
-row_after c tile line v n h content found row e k =
-    subst (λ (o : Option Row). KeptAfter line v n h (with_data c tile line h content o)) (sym e)
-    (settle_kept c tile line v n (in_row line (record h { memory = content }) row) (row_kept line v n (record h { memory = content }) row k))
+row_after : (c : Config) (tile line : ℕ) (v : LineData) (n : ℕ → Part) (h : Home) (says : Up) (found : Option Row) (row : Row) → found ≡ Some row
+    → Kept row.state (memory_after says h.memory) h.waiting v (all_sent n (words (memory_after says h.memory) row.sent))
+    → KeptAfter line v n h (option_map (after_row c tile line h says) found)
+row_after c tile line v n h says found row e k =
+    let with_data : Home = record h { memory = memory_after says h.memory } in
+    subst (λ (o : Option Row). KeptAfter line v n h (option_map (after_row c tile line h says) o)) (sym e)
+    (settle_kept c tile line v n (in_row line with_data row) (row_kept line v n with_data row k))
 
-pub home_takes : (c : Config) (tile line : ℕ) (h : Home) (v : LineData) (x : ℕ) (u : Up) (us : List Up) (n : ℕ → Part) → Kept h.state h.memory h.waiting v n → (n x).up ≡ u ∷ us
+-- a request waits, or is taken up where none waits
+asked_kept : (c : Config) (tile line : ℕ) (v : LineData) (h : Home) (q : Request) (n : ℕ → Part) → (is_busy h.state ≡ false → h.waiting ≡ [])
+    → Kept h.state h.memory (h.waiting ++ q ∷ []) v n → KeptBy line v n (requested c tile line h q)
+asked_kept c tile line v h q n idle k =
+    kept_if line v n (is_busy h.state) (record { home = record h { waiting = h.waiting ++ q ∷ [] }; mail = [] }) (taken_up c tile line h q)
+    (λ busy. none_sent line v n (record h { waiting = h.waiting ++ q ∷ [] }) k)
+    (λ free.
+    let alone : Kept h.state h.memory (q ∷ []) v n = subst (λ waiting. Kept h.state h.memory (waiting ++ q ∷ []) v n) (idle free) k in
+    subst (λ waiting. Kept (request_row h.state q.want q.from).state h.memory waiting v (all_sent n (said_to line (taken_up c tile line h q).mail))) (sym (idle free))
+    (takes_up c tile line v h q [] n free alone))
+
+pub home_takes : (c : Config) (tile line : ℕ) (h : Home) (v : LineData) (x : ℕ) (u : Up) (us : List Up) (n : ℕ → Part) → (is_busy h.state ≡ false → h.waiting ≡ [])
+    → Kept h.state h.memory h.waiting v n → (n x).up ≡ u ∷ us
     → KeptAfter line v (with_part x (with_up (n x) us) n) h (reaction c tile line h x u)
-home_takes c tile line h v x (asks w) us n k e =
-    let asked : Home = record h { waiting = h.waiting ++ request x w ∷ [] } in
-    let m : ℕ → Part = with_part x (with_up (n x) us) n in
-    settle_kept c tile line v m (record { home = asked; mail = [] }) (none_sent line v m asked (took_ask h.state h.memory h.waiting v x w us n k e))
-home_takes c tile line h v x acknowledges us n k e =
+home_takes c tile line h v x (Asks w) us n idle k e =
+    asked_kept c tile line v h (request x w) (with_part x (with_up (n x) us) n) idle (took_ask h.state h.memory h.waiting v x w us n k e)
+home_takes c tile line h v x Acknowledges us n idle k e =
     let f = k.fits x in
-    let g = took_ack v f.phase us (up_is v h.state h.waiting x (n x) acknowledges us f e) in
+    let g = took_ack v f.phase us (up_is v h.state h.waiting x (n x) Acknowledges us f e) in
     let i = victim_state h.state x (f.standing_is ∙ g.0) in
     let now : Kept (BusyInv i.0 i.1) h.memory h.waiting v n = subst (λ s. Kept s h.memory h.waiting v n) i.2 k in
-    row_after c tile line v (with_part x (with_up (n x) us) n) h h.memory (ack_row h.state x) (acked_by i.0 (without x i.1)) (ap (λ s. ack_row s x) i.2)
+    row_after c tile line v (with_part x (with_up (n x) us) n) h Acknowledges (ack_row h.state x) (acked_by i.0 (without x i.1)) (ap (λ s. ack_row s x) i.2)
     (took_acked h.memory v x i.0 i.1 (without x i.1) h.waiting us n now e i.3 refl (ack_orderly i.0 x i.1 now.orderly))
-home_takes c tile line h v x (gives_up d) us n k e =
+home_takes c tile line h v x (GivesUp d) us n idle k e =
     let f = k.fits x in
     let m : ℕ → Part = with_part x (with_up (n x) us) n in
-    let g = took_put v f.phase d us (up_is v h.state h.waiting x (n x) (gives_up d) us f e) in
+    let g = took_put v f.phase d us (up_is v h.state h.waiting x (n x) (GivesUp d) us f e) in
     elim g.2 [
       | inl a ↦
           let i : h.state ≡ Modified x = owner_state h.state x (f.standing_is ∙ a) in
-          row_after c tile line v m h d (put_row h.state x) (same Uncached) (ap (λ s. put_row s x) i ∙ cond-true (x == x) (Some (same Uncached)) None (itself x))
+          row_after c tile line v m h (GivesUp d) (put_row h.state x) (same Uncached) (ap (λ s. put_row s x) i ∙ cond-true (x == x) (Some (same Uncached)) None (itself x))
           (took_given h.memory v d x h.waiting us n (subst (λ s. Kept s h.memory h.waiting v n) i k) e)
       | inr a ↦
           let i = fetched_state h.state x a.0 (f.standing_is ∙ a.1) in
-          row_after c tile line v m h d (put_row h.state x) (put_by a.0 i.0) (ap (λ s. put_row s x) i.1 ∙ cond-true (x == x) (Some (put_by a.0 i.0)) None (itself x))
+          row_after c tile line v m h (GivesUp d) (put_row h.state x) (put_by a.0 i.0) (ap (λ s. put_row s x) i.1 ∙ cond-true (x == x) (Some (put_by a.0 i.0)) None (itself x))
           (took_given_fetched h.memory v d x i.0 a.0 h.waiting us n (subst (λ s. Kept s h.memory h.waiting v n) i.1 k) e)
     ]
-home_takes c tile line h v x (answers d) us n k e =
+home_takes c tile line h v x (HandsOver d) us n idle k e =
     let f = k.fits x in
-    let g = took_answer v f.phase d us (up_is v h.state h.waiting x (n x) (answers d) us f e) in
-    let a : Bool = g.2.0 in
+    let g = took_answer v f.phase d us (up_is v h.state h.waiting x (n x) (HandsOver d) us f e) in
+    let a : Want = g.2.0 in
     let i = fetched_state h.state x a (f.standing_is ∙ g.2.1) in
-    row_after c tile line v (with_part x (with_up (n x) us) n) h d (fetch_row h.state x) (fetched_by a i.0 x)
+    row_after c tile line v (with_part x (with_up (n x) us) n) h (HandsOver d) (fetch_row h.state x) (fetched_by a i.0 x)
     (ap (λ s. fetch_row s x) i.1 ∙ cond-true (x == x) (Some (fetched_by a i.0 x)) None (itself x))
     (took_answered h.memory v d x i.0 a h.waiting us n (subst (λ s. Kept s h.memory h.waiting v n) i.1 k) e)

@@ -4,23 +4,24 @@ use Rattle.std.proofs.lemmas.Bool.Decides.{nat_tests}
 use Rattle.std.proofs.lemmas.Bool.{cases_Bool, cond-true, cond-false}
 use Rattle.std.proofs.lemmas.Option.{none-some}
 use Rattle.std.proofs.lemmas.List.Elements.{All-weaker}
-use Rattle.std.specs.Prelude.{Option, All, nat_lt, IfSome}
+use Rattle.std.specs.Prelude.{Option, All, nat_lt}
 use Rattle.sim_base.specs.declared.lines.LineData.{LineData}
 use Rattle.sim_base.specs.declared.settings.Config.{Config}
 use Rattle.sim_base.specs.Numbering.{home_of}
 use Rattle.elf_image.specs.Layout.{Setup}
 use Rattle.wire_msg.specs.declared.messages.Msg.{Msg}
 use Rattle.wire_msg.specs.declared.messages.Msg.TheVariants.{DataS, DataM, Inv, Fetch, FetchInv}
-use Rattle.wire_msg.specs.Message.{Up, asks, gives_up, acknowledges, answers, Down, may_send, line_of, up_of, up_about, down_about, ups, downs}
+use Rattle.wire_msg.specs.declared.lines.Up.{Up}
+use Rattle.wire_msg.specs.Message.{Down, may_send, line_of, up_of, up_about, down_about, ups, downs}
 use Rattle.tile_cache.specs.Cache.{IsCache}
 use Rattle.tile_cache.specs.Copy.{copy_of}
-use Rattle.dir_slice.specs.Line.{Home}
+use Rattle.dir_slice.specs.Line.{Home, is_busy}
 use Rattle.dir_slice.specs.Inner.{IsWithin}
 use Rattle.dir_slice.specs.Laws.{IsOrderly}
 use Rattle.dir_slice.proofs.Orderly.{keeps_orderly}
 use Rattle.dir_slice.specs.Directory.{Step, home_at, reaction, home_after, mail_of}
 use Rattle.dir_slice.proofs.Lines.{one_line_changes}
-use Rattle.dir_slice.proofs.Nodes.{requested_within, acknowledged_within, fetch_answered_within, given_up_within}
+use Rattle.dir_slice.proofs.Nodes.{told_within}
 use Rattle.tile_node.specs.Tile.{Tile as TileData, Act, sent_by, quiet}
 use Rattle.tile_node.specs.Step.{can_step, is_writing, waits_for_limit, looks_around, tile_step}
 use Rattle.tile_node.specs.Deliver.{hold_suits, home_does, tile_delivered}
@@ -81,7 +82,7 @@ works_of_step w t k =
     of_step_if (is_writing t.core.status) (writes_at t k) (follows_at t (plan_of w t.core) k)
     (of_step_if (is_gathered t.core.write) nothing (needs_at t None k) tt (needed_of_step t None k)) (follows_of_step t (plan_of w t.core) k)
 
-step_of_step : (w : Setup) (t : TileData) (k : ℕ) → IsOfStep (step_at w t k)
+pub step_of_step : (w : Setup) (t : TileData) (k : ℕ) → IsOfStep (step_at w t k)
 step_of_step w t k =
     of_step_if (waits_for_limit w.config.policy t.core.clock t.core.limit) _ _ tt
     (of_step_if (looks_around w.config.policy w.config.tiles t.core.clock t.core.next_check) _ _ tt (works_of_step w t k))
@@ -196,16 +197,6 @@ tile_word w s k v x t i msg rest says is cache from_home waits may no_up word at
 
 -- what a node tells the tile as the line's home
 
-if_any : (c : Config) (h : Home) (step : Option Step) → IsWithin c.tiles h → IfSome step (λ step. IsWithin c.tiles step.home) → IsWithin c.tiles (home_after h step)
-if_any c h None within after = within
-if_any c h (Some step) within after = after
-
-home_within : (c : Config) (tile line : ℕ) (h : Home) (i : ℕ) (u : Up) → IsWithin c.tiles h → i ≤ c.tiles → IsWithin c.tiles (home_after h (reaction c tile line h i u))
-home_within c tile line h i (asks w) within from = requested_within c tile line h (record { from = i; write = w }) within from
-home_within c tile line h i acknowledges within from = if_any c h _ within (acknowledged_within c tile line h i within)
-home_within c tile line h i (answers content) within from = if_any c h _ within (fetch_answered_within c tile line h i content within)
-home_within c tile line h i (gives_up content) within from = if_any c h _ within (given_up_within c tile line h i content within)
-
 -- what a home sends is about the line, and says nothing to homes
 abbrev GoesDown : ℕ → ℕ × Msg → Type 0
 GoesDown line m = (up_of m.1 ≡ None) × (line_of m.1 ≡ Some line)
@@ -223,6 +214,7 @@ tile_told w s k v x t i msg rest says is number waits may line up word no_down a
     let h : Home = home_at t.slice.homes k in
     let home_is : home_line w s k ≡ h = subst (λ z. home_in (s.node z) k ≡ h) at (ap (λ m. home_in m k) is) in
     let before : KeptIn h v n = subst (λ g. KeptIn g v n) home_is held.kept in
+    let idle : is_busy h.state ≡ false → h.waiting ≡ [] = subst (λ (g : Home). is_busy g.state ≡ false → g.waiting ≡ []) home_is held.placed.orderly.waits_while_busy in
     let step : Option Step = reaction w.config t.number k h i says in
     let popped : (y : ℕ) → n' y ≡ with_part i (with_up (n i) us) n y = takes_up w s k i x rest at (sym (ap (downs k) waits ∙ first_skipped (down_about k) msg rest no_down)) in
     let front : (n i).up ≡ says ∷ us =
@@ -236,7 +228,7 @@ tile_told w s k v x t i msg rest says is number waits may line up word no_down a
     let home_now : home_line w new k ≡ home_after h step =
     home_changes w s' k x (change_of (of_tile act)) at ∙ one_line_changes t.slice.homes k k step ∙ cond-true (k == k) _ _ (itself k)
     in
-    let kept : KeptIn (home_after h step) v (all_sent (with_part i (with_up (n i) us) n) (said_to k (mail_of step))) = home_takes w.config t.number k h v i says us n before front in
+    let kept : KeptIn (home_after h step) v (all_sent (with_part i (with_up (n i) us) n) (said_to k (mail_of step))) = home_takes w.config t.number k h v i says us n idle before front in
     let parts : (y : ℕ) → part_of w new k y ≡ all_sent (with_part i (with_up (n i) us) n) (said_to k (mail_of step)) y = λ y.
     home_sends w s' k x (change_of (of_tile act)) at (ap (λ m. copy_at m k) (sym is)) (ap (λ m. want_at m k) (sym is)) no_ups y
     ∙ ap (λ p. sent p (said_to k (mail_of step) y)) (popped y)
@@ -246,7 +238,7 @@ tile_told w s k v x t i msg rest says is number waits may line up word no_down a
       kept = subst (λ g. KeptIn g v (part_of w new k)) (sym home_now) (kept_at (part_of w new k) kept parts);
       placed = record {
         orderly = subst IsOrderly (sym home_now) (keeps_orderly w.config t.number k h i says (subst IsOrderly home_is held.placed.orderly));
-        within = subst (IsWithin w.config.tiles) (sym home_now) (home_within w.config t.number k h i says (subst (IsWithin w.config.tiles) home_is held.placed.within) from);
+        within = subst (IsWithin w.config.tiles) (sym home_now) (told_within w.config t.number k h i says (subst (IsWithin w.config.tiles) home_is held.placed.within) from);
         up = λ a b ne. ups_stay s' x (change_of (of_tile act)) k a b (λ _. no_ups b) ∙ placed.up a b ne;
         down = λ a b ne. downs_stay s' x (change_of (of_tile act)) k a b (λ same. absurd (ne (same ∙ at))) ∙ placed.down a b ne;
       };

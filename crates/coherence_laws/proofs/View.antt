@@ -6,7 +6,9 @@ use Rattle.std.specs.Prelude.{Option}
 use Rattle.sim_base.specs.Numbering.{home_of}
 use Rattle.elf_image.specs.Layout.{Setup}
 use Rattle.wire_msg.specs.declared.messages.Msg.{Msg}
-use Rattle.wire_msg.specs.Message.{Up, Down, up_about, down_about, ups, downs}
+use Rattle.wire_msg.specs.declared.lines.Want.{Want}
+use Rattle.wire_msg.specs.declared.lines.Up.{Up}
+use Rattle.wire_msg.specs.Message.{Down, up_about, down_about, ups, downs}
 use Rattle.event_journal.specs.Rules.{Change}
 use Rattle.event_journal.specs.State.{State, messages_to, changed, with_queue}
 use Rattle.node_machine.specs.declared.nodes.Node.{Node}
@@ -32,7 +34,7 @@ nothing_added : {A : Type 0} (b : Bool) (xs ys : List A) → ys ≡ [] → (if b
 nothing_added true xs ys e = ap (λ l. xs ++ l) e ∙ append-nil xs
 nothing_added false xs ys e = refl
 
-same_parts : {copy copy' : _} {want want' : Option Bool} {up up' : List Up} {down down' : List Down} → copy ≡ copy' → want ≡ want' → up ≡ up' → down ≡ down' → part copy want up down ≡ part copy' want' up' down'
+same_parts : {copy copy' : _} {want want' : Option Want} {up up' : List Up} {down down' : List Down} → copy ≡ copy' → want ≡ want' → up ≡ up' → down ≡ down' → part copy want up down ≡ part copy' want' up' down'
 same_parts a b c d = cc
 
 -- a node acts: what it sends joins the lists from it

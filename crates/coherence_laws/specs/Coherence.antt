@@ -1,11 +1,14 @@
 -- What a state has to be for its lines to be coherent: one writer or only readers, at most one carrier, one value.
-use Rattle.std.specs.Prelude.{ℕ, ◌≡◌, ◌≢◌, ◌⊎◌, true, List, [], ◌∷◌, ◌++◌, Option, Some, None}
-use Rattle.std.specs.List.{filter_map}
+use Rattle.std.specs.Prelude.{ℕ, ◌≡◌, ◌≢◌, ◌⊎◌, List, [], ◌∷◌, ◌++◌, Option, Some, None}
+use Rattle.std.specs.List.{All, filter_map}
 use Rattle.sim_base.specs.declared.lines.LineData.{LineData}
 use Rattle.sim_base.specs.Numbering.{home_of}
 use Rattle.elf_image.specs.Layout.{Setup}
 use Rattle.wire_msg.specs.declared.messages.Msg.{Msg}
-use Rattle.wire_msg.specs.Message.{Up, gives_up, answers, Down, gives, ups, downs}
+use Rattle.wire_msg.specs.declared.lines.Want.TheVariants.{Read, Write}
+use Rattle.wire_msg.specs.declared.lines.Up.{Up}
+use Rattle.wire_msg.specs.declared.lines.Up.TheVariants.{GivesUp, HandsOver}
+use Rattle.wire_msg.specs.Message.{Down, gives, ups, downs}
 use Rattle.tile_cache.specs.Copy.{Copy, absent, shared, modified}
 use Rattle.event_journal.specs.State.{State}
 use Rattle.node_machine.specs.declared.nodes.Node.{Node}
@@ -22,18 +25,18 @@ abbrev pub OneWriterOrReaders : State Node Msg → ℕ → Type 0
 OneWriterOrReaders s k = (x y : ℕ) → IsWritable (copy_at (s.node x) k) → (x ≡ y) ⊎ (copy_at (s.node y) k ≡ absent)
 
 -- the data of a line that only one place may have: a copy to write, the line on its way to a writer, and what its owner
--- gives up or answers a fetch with
+-- gives up or hands over
 abbrev pub in_copy : Copy → List LineData
 in_copy (modified content) = content ∷ []
 in_copy _ = []
 
 abbrev pub in_up : Up → Option LineData
-in_up (gives_up content) = Some content
-in_up (answers content) = Some content
+in_up (GivesUp content) = Some content
+in_up (HandsOver content) = Some content
 in_up _ = None
 
 abbrev pub in_down : Down → Option LineData
-in_down (gives true content) = Some content
+in_down (gives Write content) = Some content
 in_down _ = None
 
 abbrev pub carried : Part → List LineData
@@ -63,9 +66,16 @@ pub record OnlyByHome (w : Setup) (s : State Node Msg) (k : ℕ) : Type 0 where
   pub up : (from to : ℕ) → to ≢ home_of w.config k → ups k (s.queue from to) ≡ []
   pub down : (from to : ℕ) → from ≢ home_of w.config k → downs k (s.queue from to) ≡ []
 
--- a line is coherent with this value: one writer or only readers, one place that has the value, and every copy has it
+-- the data of a line on its way to a reader
+abbrev pub to_reader : Down → Option LineData
+to_reader (gives Read content) = Some content
+to_reader _ = None
+
+-- a line is coherent with this value: one writer or only readers, one place that has the value, and every copy has it, and
+-- what is on its way to readers
 pub record IsCoherent (w : Setup) (s : State Node Msg) (k : ℕ) (v : LineData) : Type 0 where
   pub writer : OneWriterOrReaders s k
   pub value : HasValue w s k v
   pub copies : (x : ℕ) → HasData (copy_at (s.node x) k) v
+  pub readers : (x : ℕ) → All (λ content. content ≡ v) (filter_map to_reader (part_of w s k x).down)
   pub messages : OnlyByHome w s k

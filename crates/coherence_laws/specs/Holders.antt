@@ -1,5 +1,5 @@
 -- Who holds a line, as it is read of the machine that the program keeps.
-use Rattle.std.specs.Prelude.{ℕ, ◌≡◌, ◌<◌, ◌+◌, Bool, true, false, List, find, count_by, slice_get, Option, Some, None}
+use Rattle.std.specs.Prelude.{ℕ, ◌≡◌, ◌<◌, ◌+◌, Bool, true, false, List, find, count_by, slice_get, min, Option, Some, None}
 use Rattle.std.specs.List.{range_with_len}
 use Rattle.sim_base.specs.Numbering.{node_count}
 use Rattle.sim_base.specs.Settings.{IsChecked}
@@ -24,6 +24,10 @@ is_to_read _ = false
 -- how a tile holds a line
 abbrev pub hold_in : CoreData → ℕ → ℕ → Option Hold
 hold_in core line tile = hold_at (slice_get core.nodes tile) line
+
+-- how many tiles can be named by a number, which is a byte: all of a machine of checked settings, which has at most 64
+abbrev pub named_tiles : CoreData → ℕ
+named_tiles core = min core.tiles 256
 
 -- of so many tiles, the least that has a line to write, and how many have it to read
 abbrev pub writer_below : CoreData → ℕ → ℕ → Option ℕ

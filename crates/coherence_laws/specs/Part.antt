@@ -1,10 +1,13 @@
 -- What a machine has of one line of memory: each node's part of it, and the line at its home. The coherence of lines
 -- speaks of nothing else. This simulator's own.
-use Rattle.std.specs.Prelude.{ℕ, ◌==◌, Bool, false, List, if◌then◌else◌, Option, Some, None}
+use Rattle.std.specs.Prelude.{ℕ, ◌==◌, List, if◌then◌else◌, Option, Some, None}
 use Rattle.sim_base.specs.Numbering.{home_of}
 use Rattle.elf_image.specs.Layout.{Setup}
 use Rattle.wire_msg.specs.declared.messages.Msg.{Msg}
-use Rattle.wire_msg.specs.Message.{Up, Down, ups, downs}
+use Rattle.wire_msg.specs.declared.lines.Want.{Want}
+use Rattle.wire_msg.specs.declared.lines.Want.TheVariants.{Read}
+use Rattle.wire_msg.specs.declared.lines.Up.{Up}
+use Rattle.wire_msg.specs.Message.{Down, ups, downs}
 use Rattle.tile_cache.specs.Copy.{Copy, absent, copy_of}
 use Rattle.dir_slice.specs.Line.{Home, fresh}
 use Rattle.dir_slice.specs.Directory.{zero_line, home_at}
@@ -15,11 +18,10 @@ use Rattle.event_journal.specs.State.{State}
 use Rattle.node_machine.specs.declared.nodes.Node.{Node}
 use Rattle.node_machine.specs.declared.nodes.Node.TheVariants.{Tile, Control, Local}
 
--- a node's part of a line: its copy; what it waits for of the line, nothing, to read it, or (true) to write it; what is on
--- its way from it to the line's home; and what is on its way to it from there
+-- a node's part of a line: its copy; what it wants the line for, where it waits for it; what is on its way from it to the line's home; and what is on its way to it from there
 pub record Part : Type 0 where
   pub copy : Copy
-  pub want : Option Bool
+  pub want : Option Want
   pub up : List Up
   pub down : List Down
 
@@ -29,11 +31,11 @@ copy_at (Tile t) k = copy_of t.cache k
 copy_at _ k = absent
 
 -- a tile waits for the line that it misses; the control server for the line of the word that it checks, to read it
-abbrev pub check_wants : Option Check → ℕ → Option Bool
+abbrev pub check_wants : Option Check → ℕ → Option Want
 check_wants None k = None
-check_wants (Some check) k = if line_at check.addr == k then Some false else None
+check_wants (Some check) k = if line_at check.addr == k then Some Read else None
 
-abbrev pub want_at : Node → ℕ → Option Bool
+abbrev pub want_at : Node → ℕ → Option Want
 want_at (Tile t) k = wants t k
 want_at (Control c) k = check_wants c.checking k
 want_at (Local l) k = None

@@ -1,7 +1,6 @@
-//! Who holds a line of memory in the machine as it stands.
-
+//! Who holds a line, as it is read of the machine that the program keeps.
 ghost use Rattle.std.specs.Prelude.{◌≡◌, ◌≤◌, ◌<◌, ◌+◌, ◌^◌};
-ghost use Rattle.coherence_laws.specs.Holders.{writer_below, readers_below, WriterIsAlone, writer_with, readers_with};
+ghost use Rattle.coherence_laws.specs.Holders.{named_tiles, writer_below, readers_below, WriterIsAlone, writer_with, readers_with};
 
 use node_machine::Core;
 use sim_base::{Line, NodeId};
@@ -17,18 +16,17 @@ pub struct Held {
 }
 
 /// Who holds a line of memory. Of a machine that shows a state of a run, a tile that has the line to write is the only one
-/// that holds it. A tile's number is a byte, so there are at most 256 tiles; a machine of checked settings has at most 64.
+/// that holds it. A tile's number is a byte, so only 256 tiles can be named; a machine of checked settings has at most 64.
 pub fn holders(core: &Core, line: Line) -> Held
-    requires { core.now.tiles ≤ 256 }
-    ensures writer { result.writer ≡ writer_below core.now line core.now.tiles }
-    ensures readers { result.readers ≡ readers_below core.now line core.now.tiles }
+    ensures writer { result.writer ≡ writer_below core.now line (named_tiles core.now) }
+    ensures readers { result.readers ≡ readers_below core.now line (named_tiles core.now) }
     ensures alone { WriterIsAlone core.now line result.writer result.readers }
 {
     let mut found = Held {
         writer: None,
         readers: 0,
     };
-    for tile in 0..core.tiles() {
+    for tile in 0..core.tiles().min(256) {
         found = with_hold(&found, tile as NodeId, core.hold(tile as NodeId, line));
     }
     found

@@ -13,7 +13,7 @@ use Rattle.elf_image.specs.Layout.{Setup}
 use Rattle.wire_msg.specs.declared.messages.Msg.{Msg}
 use Rattle.wire_msg.specs.declared.messages.Msg.TheVariants.{GetS, GetM, PutM, InvAck, FetchAck, DataS, DataM, Fetch, FetchInv, Return, Start, Trapped, Limit, Probe, ProbeReply}
 use Rattle.wire_msg.specs.declared.lines.Want.{Want}
-use Rattle.wire_msg.specs.declared.lines.Want.TheVariants.{Read, Write}
+use Rattle.wire_msg.specs.declared.lines.Want.TheVariants.{Read, Write as ToWrite}
 use Rattle.wire_msg.specs.declared.lines.Up.{Up}
 use Rattle.wire_msg.specs.declared.lines.Up.TheVariants.{Asks, GivesUp, Acknowledges, HandsOver}
 use Rattle.wire_msg.specs.Message.{may_send, line_of, up_of}
@@ -39,7 +39,7 @@ use Rattle.node_machine.proofs.TrappingWords.{TrapFact, Tells, Mails, all_of, no
 
 up_tells : (K : TrapFact) (line : ℕ) (says : Up) → Tells K (up_message line says)
 up_tells K line (Asks Read) = tt
-up_tells K line (Asks Write) = tt
+up_tells K line (Asks ToWrite) = tt
 up_tells K line (GivesUp content) = tt
 up_tells K line Acknowledges = tt
 up_tells K line (HandsOver content) = tt
@@ -139,14 +139,14 @@ reply_silent K w t running clock _ = no_mail K
 
 taken_silent : (K : TrapFact) (w : Setup) (t : Tile) (from : ℕ) (msg : Msg) → All (Mails K) (taken w t from msg).mail
 taken_silent K w t from (GetS line) = home_silent K w t from line (Asks Read)
-taken_silent K w t from (GetM line) = home_silent K w t from line (Asks Write)
+taken_silent K w t from (GetM line) = home_silent K w t from line (Asks ToWrite)
 taken_silent K w t from (PutM line content) = home_silent K w t from line (GivesUp content)
 taken_silent K w t from (InvAck line) = home_silent K w t from line Acknowledges
 taken_silent K w t from (FetchAck line content) = home_silent K w t from line (HandsOver content)
 taken_silent K w t from (DataS line content delay) = data_silent K w t line S content delay t.core.status
 taken_silent K w t from (DataM line content delay) = data_silent K w t line M content delay t.core.status
-taken_silent K w t from (Fetch line) = fetch_silent K t from line false (way_of t.cache line)
-taken_silent K w t from (FetchInv line) = fetch_silent K t from line true (way_of t.cache line)
+taken_silent K w t from (Fetch line) = fetch_silent K t from line Read (way_of t.cache line)
+taken_silent K w t from (FetchInv line) = fetch_silent K t from line ToWrite (way_of t.cache line)
 taken_silent K w t from (Return value time limit) = return_silent K w t value time limit t.core.status
 taken_silent K w t from (Start thread entry arg time limit) = start_silent K w t thread entry arg time limit t.core.status
 taken_silent K w t from (Limit limit) = limit_silent K t limit t.core.status

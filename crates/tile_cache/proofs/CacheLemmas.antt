@@ -8,7 +8,8 @@ use Rattle.std.specs.Prelude.{All, not, Option, is_some, if◌then◌else◌, fi
 use Rattle.std.specs.Option.{option_map}
 use Rattle.tile_cache.specs.declared.ways.Hold.{Hold}
 use Rattle.tile_cache.specs.declared.ways.Way.{Way}
-use Rattle.tile_cache.specs.Cache.{Sets, IsCache, set_number, set_of, way_of, hold_of, is_m, with_set, has_line, has_repeat, hold_among, others, touched_ways, touched, with_line_changed, with_change, way_written, written, last_way, line_and_hold, victim_of}
+use Rattle.tile_cache.specs.Cache.{Sets, IsCache, set_number, set_of, way_of, hold_of, is_m, with_set, has_line, has_repeat, others, touched, with_line_changed, with_change, way_written, written, last_way, line_and_hold, victim_of}
+use Rattle.tile_cache.specs.Kept.{hold_among, touched_ways}
 use Rattle.tile_cache.proofs.SetLemmas.{KeepsLine, changed_line, changed-once, found_line, front-once, length-others, last-nothing, length-others_found, others-once}
 
 -- ways that may be the set of a number

@@ -3,7 +3,8 @@ use Rattle.std.proofs.Common.{ℕ, List, [], refl, arith}
 use Rattle.std.proofs.lemmas.List.{length-set, length-replicate}
 use Rattle.std.proofs.lemmas.List.Elements.{All-nil}
 use Rattle.tile_cache.specs.declared.ways.Way.{Way}
-use Rattle.tile_cache.specs.Cache.{Sets, IsCache, empty_cache, set_number, set_of, with_set, touched_ways, way_written, way_downgraded}
+use Rattle.tile_cache.specs.Cache.{Sets, IsCache, empty_cache, set_number, set_of, with_set, way_written, way_downgraded}
+use Rattle.tile_cache.specs.Kept.{touched_ways}
 use Rattle.tile_cache.specs.Change.{touch, place, drop, write, downgrade, HasSameSize, EmptyHasSize, EmptyIsCache, ChangesKeepSize, ChangesKeepCache}
 use Rattle.tile_cache.proofs.CacheLemmas.{IsSet, IsSet-at, IsSet-others, IsSet-front, IsSet-touched, IsSet-changed, IsCache-with_set, touched-set, placed-room}
 use Rattle.tile_cache.proofs.CopyLemmas.{empty_at}

@@ -8,7 +8,8 @@ use Rattle.std.specs.Prelude.{Option, find, filter, position, not, ◌==◌, map
 use Rattle.std.specs.List.{list_any, position_or_len, remove, slice_get}
 use Rattle.std.specs.Option.{option_map}
 use Rattle.tile_cache.specs.declared.ways.Way.{Way}
-use Rattle.tile_cache.specs.Cache.{at_front, has_line, hold_among, others, touched_ways, with_line_changed, last_way, has_repeat}
+use Rattle.tile_cache.specs.Cache.{has_line, others, with_line_changed, last_way, has_repeat}
+use Rattle.tile_cache.specs.Kept.{at_front, hold_among, touched_ways}
 
 -- the first way with a line stands at a place
 abbrev IsPlace : ℕ → List Way → ℕ → Type 0

@@ -1,7 +1,7 @@
 -- A private cache: set-associative, write-back, the least recently used line of a set goes first. A line of
 -- number n lies in set n modulo the number of sets. This simulator's own, after Graphite (HPCA 2010).
 use Rattle.std.specs.Prelude.{ℕ, ◌%◌, ◌<◌, ◌≤◌, ◌≡◌, ◌==◌, ◌||◌, not, Bool, true, false, nat_lt, List, [], ◌∷◌, length, map, filter, find, replicate, All, if◌then◌else◌, Option, Some, None, is_some, slice_index, slice_index_or, slice_set}
-use Rattle.std.specs.List.{list_any, remove, slice_get}
+use Rattle.std.specs.List.{list_any}
 use Rattle.std.specs.Option.{option_map, option_map_or}
 use Rattle.sim_base.specs.declared.lines.LineData.{LineData}
 use Rattle.sim_base.specs.LittleEndian.{loaded, stored}
@@ -34,18 +34,6 @@ way_of c line = find (has_line line) (set_of c line)
 
 abbrev pub others : ℕ → List Way → List Way
 others line ways = filter (λ way. not (has_line line way)) ways
-
--- how ways hold this line, where one has it
-abbrev pub hold_among : ℕ → List Way → Option Hold
-hold_among line ways = option_map (λ way. way.hold) (find (has_line line) ways)
-
--- ways with the one that has this line brought to their front
-abbrev pub touched_ways : ℕ → List Way → List Way
-touched_ways line ways = option_map_or (λ way. way ∷ others line ways) (find (has_line line) ways) ways
-
--- ways with the one at a place brought to their front
-abbrev pub at_front : ℕ → List Way → List Way
-at_front place ways = option_map_or (λ way. way ∷ remove ways place) (slice_get ways place) ways
 
 -- ways with another in the place of the one that has this line
 abbrev pub with_line_changed : ℕ → (Way → Way) → List Way → List Way

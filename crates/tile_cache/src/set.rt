@@ -4,7 +4,8 @@ ghost use Rattle.std.specs.Prelude.{◌≡◌, ◌≤◌, ◌<◌, ◌+◌, ◌*
 ghost use Rattle.std.specs.Option.{option_copied, option_map};
 ghost use Rattle.std.specs.Vec.{vec_capacity};
 ghost use Rattle.sim_base.specs.LittleEndian.{loaded};
-ghost use Rattle.tile_cache.specs.Cache.{at_front, has_line, hold_among, is_m, others, touched_ways, with_line_changed, way_written, way_downgraded, last_way, has_repeat};
+ghost use Rattle.tile_cache.specs.Cache.{has_line, is_m, others, with_line_changed, way_written, way_downgraded, last_way, has_repeat};
+ghost use Rattle.tile_cache.specs.Kept.{at_front, hold_among, touched_ways};
 
 use crate::ways::{Hold, Way};
 use sim_base::{Line, NoMemory};

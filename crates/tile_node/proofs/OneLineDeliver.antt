@@ -204,8 +204,7 @@ stays_shows t line k want copy is same silent =
 
 fetch_held : (t : Tile) (from line : ℕ) (want : Want) (hold : Hold) (content : LineData) (k : ℕ) → IsCache t.cache → copy_of t.cache line ≡ held_as hold content
     → Shows t k (if is_only_read hold then quiet t else record (quiet (fetched_tile t line want)) { told = told_to from line (HandsOver content) }) (at_line line k (fetched want))
-fetch_held t from line Read S content k h e = stays_shows t line k Read (shared content) e refl refl
-fetch_held t from line Write S content k h e = stays_shows t line k Write (shared content) e refl refl
+fetch_held t from line want S content k h e = stays_shows t line k want (shared content) e refl refl
 fetch_held t from line want M content k h e =
     shows_else t line k _ (fetched want) nothing
     (record {
@@ -217,8 +216,7 @@ fetch_held t from line want M content k h e =
 
 fetch_shows : (t : Tile) (from line : ℕ) (want : Want) (found : Option Way) (k : ℕ) → IsCache t.cache → way_of t.cache line ≡ found
     → Shows t k (fetch_by t from line want found) (at_line line k (fetched want))
-fetch_shows t from line Read None k h e = stays_shows t line k Read absent (ap copy_in e) refl refl
-fetch_shows t from line Write None k h e = stays_shows t line k Write absent (ap copy_in e) refl refl
+fetch_shows t from line want None k h e = stays_shows t line k want absent (ap copy_in e) refl refl
 fetch_shows t from line want (Some way) k h e = fetch_held t from line want way.hold way.content k h (ap copy_in e)
 
 -- messages to the thread

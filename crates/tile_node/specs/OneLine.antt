@@ -79,9 +79,12 @@ abbrev pub dropped_copy : Copy → Copy
 dropped_copy (shared content) = absent
 dropped_copy copy = copy
 
+abbrev pub left_for : Want → LineData → Copy
+left_for Read content = shared content
+left_for Write content = absent
+
 abbrev pub fetched_copy : Want → Copy → Copy
-fetched_copy Read (modified content) = shared content
-fetched_copy Write (modified content) = absent
+fetched_copy want (modified content) = left_for want content
 fetched_copy want copy = copy
 
 abbrev pub copy_after : Happening → Copy → Copy

@@ -1,5 +1,6 @@
 use Rattle.std.proofs.Common.{◌≡◌, ◌<◌, ◌≤◌, refl, ap, sym, ◌∙◌, arith}
-use Rattle.coherence_laws.specs.Holders.{writer_with, readers_with}
+use Rattle.std.specs.Prelude.{min}
+use Rattle.coherence_laws.specs.Holders.{named_tiles, writer_with, readers_with}
 use Rattle.coherence_laws.proofs.HolderLemmas.{all_counted, all_found, alone_so, readers_at_most, readers_next, writer_next}
 use Rattle.coherence_laws.proofs.reading.holders.Goals as goal
 
@@ -11,10 +12,9 @@ loop-tile-init c = (refl, refl, omega arith)
 pub with_hold-found-requires : goal.with_hold-found-requires
 with_hold-found-requires c =
     let few : c.loop-tile.found.readers ≤ c.loop-tile.tile = c.loop-tile.invariant.2 in
-    let low : c.loop-tile.tile < c.tiles-tile-end.result = c.loop-tile-test.true in
-    let all : c.tiles-tile-end.result ≡ c.args.core.now.tiles = c.tiles-tile-end.ensures in
-    let most : c.args.core.now.tiles ≤ 256 = c.requires in
-    omega (arith, few, low, all, most)
+    let low : c.loop-tile.tile < c.min-tile-end.result = c.loop-tile-test.true in
+    let all : c.min-tile-end.result ≡ named_tiles c.args.core.now = c.min-tile-end.ensures ∙ ap (λ tiles. min tiles 256) c.tiles.ensures in
+    omega (arith, few, low, all)
 
 -- one more tile
 pub loop-tile-preserved : goal.loop-tile-preserved
@@ -29,10 +29,10 @@ loop-tile-preserved c =
 
 -- all tiles were looked at
 pub returns-clause-writer : goal.returns-clause-writer
-returns-clause-writer c = all_found c.args.core.now c.args.line c.loop-tile.tile c.tiles-tile-end.result c.loop-tile.found.writer c.tiles-tile-end.ensures c.loop-tile.auto.tile-end c.loop-tile-test.false c.loop-tile.invariant.0
+returns-clause-writer c = all_found c.args.core.now c.args.line c.loop-tile.tile c.min-tile-end.result c.loop-tile.found.writer (c.min-tile-end.ensures ∙ ap (λ tiles. min tiles 256) c.tiles.ensures) c.loop-tile.auto.tile-end c.loop-tile-test.false c.loop-tile.invariant.0
 
 pub returns-clause-readers : goal.returns-clause-readers
-returns-clause-readers c = all_counted c.args.core.now c.args.line c.loop-tile.tile c.tiles-tile-end.result c.loop-tile.found.readers c.tiles-tile-end.ensures c.loop-tile.auto.tile-end c.loop-tile-test.false c.loop-tile.invariant.1
+returns-clause-readers c = all_counted c.args.core.now c.args.line c.loop-tile.tile c.min-tile-end.result c.loop-tile.found.readers (c.min-tile-end.ensures ∙ ap (λ tiles. min tiles 256) c.tiles.ensures) c.loop-tile.auto.tile-end c.loop-tile-test.false c.loop-tile.invariant.1
 
 pub returns-clause-alone : goal.returns-clause-alone
 returns-clause-alone c =

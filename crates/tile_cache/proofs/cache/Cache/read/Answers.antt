@@ -1,7 +1,8 @@
 -- The line is read in its set, and comes to the front of it.
 use Rattle.std.proofs.Common.{ap, sym, ◌∙◌, arith}
 use Rattle.std.proofs.lemmas.List.{length-set}
-use Rattle.tile_cache.specs.Cache.{touched_ways, with_set}
+use Rattle.tile_cache.specs.Cache.{with_set}
+use Rattle.tile_cache.specs.Kept.{touched_ways}
 use Rattle.tile_cache.proofs.CacheLemmas.{IsSet-touched, touched-set}
 use Rattle.tile_cache.proofs.KeptLemmas.{IsSet-here, kept-set, memory_here, set_at, set_of-here, view-set}
 use Rattle.tile_cache.proofs.cache.Cache.read.Goals as goal

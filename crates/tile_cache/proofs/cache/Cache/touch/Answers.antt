@@ -1,7 +1,8 @@
 -- The line comes to the front of its set.
 use Rattle.std.proofs.Common.{ap, sym, ◌∙◌, arith}
 use Rattle.std.proofs.lemmas.List.{length-set}
-use Rattle.tile_cache.specs.Cache.{Sets, touched_ways, way_of, with_set}
+use Rattle.tile_cache.specs.Cache.{Sets, way_of, with_set}
+use Rattle.tile_cache.specs.Kept.{touched_ways}
 use Rattle.tile_cache.proofs.CacheLemmas.{IsSet-touched, touched-set}
 use Rattle.tile_cache.proofs.CopyLemmas.{touched_way}
 use Rattle.tile_cache.proofs.KeptLemmas.{IsSet-here, is_cache, kept-set, memory_here, set_at, set_of-here, view-set}

@@ -1,6 +1,7 @@
 -- The way at the line's place is written where it is held in M, and comes to the front.
 use Rattle.std.proofs.Common.{refl, sym, ap, ◌∙◌, set}
-use Rattle.tile_cache.specs.Cache.{at_front, is_m, way_written}
+use Rattle.tile_cache.specs.Cache.{is_m, way_written}
+use Rattle.tile_cache.specs.Kept.{at_front}
 use Rattle.tile_cache.proofs.SetLemmas.{absent, changed_front_at, find-absent, held_at}
 use Rattle.tile_cache.proofs.set.Set.overwrite.Goals as goal
 
