@@ -30,12 +30,12 @@ module _ (w : Setup) (core : CoreData) (events : List Event) (index : ℕ) (unde
     pub replay_goes_on : (new : CoreData) (action : Option Action) → IsCore w new → new.spent ≡ false
         → ((s : State Node Msg) → Shows core s → IsMade w (get_or items index d) action core new s)
         → IsUnderWay w new (take (index + 1) events)
-    replay_goes_on new action fits able made =
+    replay_goes_on new action fits not_spent made =
         let within' : index < length events = subst (λ xs. index < length xs) same within in
         let one : IsMade w (get_or events index d) action core new (state_after w (take index events)) =
         subst (λ xs. IsMade w (get_or xs index d) action core new (state_after w (take index events))) same (made (state_after w (take index events)) under.shows) in
         subst (IsUnderWay w new) (sym (one_more events index d within'))
-        (goes_on w core new (take index events) (get_or events index d) under fits able one.enabled one.shows)
+        (goes_on w core new (take index events) (get_or events index d) under fits not_spent one.enabled one.shows)
 
     pub first_refused : ((s : State Node Msg) → Shows core s → can_happen (rules w) (node_count w.config) s (get_or items index d) ≡ false)
         → IsFirstRefused w events index
@@ -55,6 +55,7 @@ module _ (w : Setup) (core : CoreData) (events : List Event) (index : ℕ) (unde
     replayed end is = record {
       run = all_made.run;
       fits = all_made.fits;
+      not_spent = all_made.not_spent;
       shows = all_made.shows;
       end = sym (shown_is_read w core (state_after w events) all_made.fits all_made.shows).end ∙ is;
     }
