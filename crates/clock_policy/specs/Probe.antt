@@ -1,5 +1,5 @@
 -- Probes: whom a tile asks for its clock, and when it may go on. After LaxP2P of Graphite (HPCA 2010).
-use Rattle.std.specs.Prelude.{ℕ, ◌+◌, ◌-◌, ◌%◌, ◌||◌, not, Bool, nat_lt, nat_le, if◌then◌else◌}
+use Rattle.std.specs.Prelude.{ℕ, ◌≡◌, ◌+◌, ◌-◌, ◌%◌, ◌||◌, not, Bool, nat_lt, nat_le, if◌then◌else◌}
 use Rattle.rand_pcg.specs.Lcg.{Lcg, started, increment_of}
 use Rattle.rand_pcg.specs.Pcg.{pcg32, multiplier_64}
 use Rattle.sim_base.specs.declared.settings.Config.{Config}
@@ -20,6 +20,11 @@ pub record ProbeStream : Type 0 where
   pub tiles : ℕ
   pub tile : ℕ
   pub generator : Lcg
+
+-- a stream is one of a tile of this machine
+pub record IsStreamOf (c : Config) (asker : ℕ) (s : ProbeStream) : Type 0 where
+  pub tiles : s.tiles ≡ c.tiles
+  pub tile : s.tile ≡ asker
 
 -- each tile has a stream of its own, from the seed of the settings
 unfoldable pub start_generator : ℕ → ℕ → Lcg

@@ -42,7 +42,7 @@ steps_done w id most n acting new_node old new before after mail at set has step
     })
 
 -- the first step is made first
-stepped_first : (w : Setup) (node : Node) (n : ℕ) → stepped w node (suc n) ≡ stepped w (node_step w node).node n
+pub stepped_first : (w : Setup) (node : Node) (n : ℕ) → stepped w node (suc n) ≡ stepped w (node_step w node).node n
 unfolding stepped
 stepped_first w node n = refl
 
@@ -71,7 +71,7 @@ first_can : (w : Setup) (node : Node) (n : ℕ) → AreSteps w node n → can_st
 unfolding stepped
 first_can w node n are = are.can 0 are.some
 
-own_node : (f : ℕ → Node) (k : ℕ) (x : Node) → put f k x k ≡ x
+pub own_node : (f : ℕ → Node) (k : ℕ) (x : Node) → put f k x k ≡ x
 own_node f k x = rw (eq-eqb k k refl) refl
 
 module _ (w : Setup) (id : ℕ) (low : id < node_count w.config) where

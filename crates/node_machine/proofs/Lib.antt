@@ -14,3 +14,4 @@ pub mod StepsLemmas
 pub mod MakeLemmas
 mod AloneLemmas
 mod AloneRuns
+pub mod PinnedLemmas

@@ -35,6 +35,10 @@ pub record AreMade (w : Setup) (node n : ℕ) (new : CoreData) (s : State Node M
       → s.made node + n ≡ w.config.events
   pub shows : Shows new (after (rules w) s (steps_of node n))
 
+-- how many steps are made is pinned: of one node from one state it is one number
+abbrev pub StepsArePinned : Type 0
+StepsArePinned = (w : Setup) (node n m : ℕ) (new other : CoreData) (s : State Node Msg) → AreMade w node n new s → AreMade w node m other s → n ≡ m
+
 -- what making steps of a node answers, as making one event does
 abbrev pub StepsOn : Setup → ℕ → Result ℕ ApplyFault → CoreData → CoreData → Type 0
 StepsOn w node (Ok n) old new = (old.spent ≡ false) × (new.spent ≡ false) × ((s : State Node Msg) → Shows old s → AreMade w node n new s)

@@ -1,5 +1,5 @@
 -- For the contracts of the code alone: no clause of a public function needs this.
-use Rattle.std.specs.Prelude.{ℕ, ◌≡◌, ◌<◌, ◌≤◌, ◌+◌, ◌-◌, Bool, true, false, List, [], length, map, slice_get, slice_set, Option, Some, None, Result, Ok, Err}
+use Rattle.std.specs.Prelude.{ℕ, ◌≡◌, ◌<◌, ◌≤◌, ◌+◌, ◌-◌, ◌++◌, Bool, true, false, List, [], length, map, slice_get, slice_set, Option, Some, None, Result, Ok, Err}
 use Rattle.sim_base.specs.declared.actions.Action.{Action}
 use Rattle.sim_base.specs.declared.memory.NoMemory.{NoMemory}
 use Rattle.elf_image.specs.Layout.{Setup}
@@ -31,6 +31,11 @@ event_act w (Deliver from id) node inboxes = taken_act w node from (first_of (qu
 abbrev pub inboxes_left : Event → List Inbox → List Inbox
 inboxes_left (Step id) inboxes = inboxes
 inboxes_left (Deliver from id) inboxes = with_rest from id (rest_of (queue_in inboxes from id)) inboxes
+
+-- what the acting node leaves where the event was made. Where no message waits it isn't asked to act, spent or not
+abbrev pub HasActed : Result (Option Action) NoMemory → Node → List (ℕ × Msg) → List (ℕ × Msg) → Act → Type 0
+HasActed (Ok action) new before after act = (new ≡ act.node) × (after ≡ before ++ act.sent) × (action ≡ act.action)
+HasActed (Err e) new before after act = Unit {0}
 
 -- the event is made
 pub record IsDone (w : Setup) (event : Event) (node : Node) (action : Option Action) (old new : List Node) (before after : PendingData) : Type 0 where

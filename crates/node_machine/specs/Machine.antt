@@ -69,16 +69,16 @@ rules w = record {
   deliver = λ id node from msg. change_of (node_delivered w node from msg);
 }
 
--- what a step or a delivery answers: the node and the action of the act, and what it sends after what was there; or
--- memory ran out, and the node is spent
+-- what a step or a delivery answers: Ok where the node wasn't spent, with the node and the action of the act, and what it
+-- sends after what was there; or memory ran out, and the node is spent
 abbrev pub is_spent : Node → Bool
 is_spent (Tile tile) = tile.spent
 is_spent (Control control) = control.spent
 is_spent (Local local) = local.spent
 
-abbrev pub Acts : Result (Option Action) NoMemory → Node → List (ℕ × Msg) → List (ℕ × Msg) → Act → Type 0
-Acts (Ok action) new before after act = (new ≡ act.node) × (after ≡ before ++ act.sent) × (action ≡ act.action)
-Acts (Err e) new before after act = is_spent new ≡ true
+abbrev pub Acts : Result (Option Action) NoMemory → Node → Node → List (ℕ × Msg) → List (ℕ × Msg) → Act → Type 0
+Acts (Ok action) old new before after act = (is_spent old ≡ false) × (new ≡ act.node) × (after ≡ before ++ act.sent) × (action ≡ act.action)
+Acts (Err e) old new before after act = is_spent new ≡ true
 
 -- a node before the program runs: the tiles, the control server, the local servers of the hosts
 abbrev pub start_server : Setup → ℕ → Node

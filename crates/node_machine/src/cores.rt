@@ -146,7 +146,7 @@ impl Core {
         event: Event,
     ) -> Result<Option<Action>, NoMemory>
         requires fits { IsCore world.now self.old }
-        requires able { self.old.spent ≡ false }
+        requires not_spent { self.old.spent ≡ false }
         requires enabled { is_enabled_in self.old event ≡ true }
         ensures applies { AppliesEnabled world.now event result self.old self.new }
         ensures fits { IsCore world.now self.new }

@@ -1,5 +1,6 @@
-//! The laws of what is read of a machine: it is so of each state that the machine shows.
+//! Laws of the machine as the program keeps it: what is read of it, and how many steps are made at once.
 
+ghost use Rattle.node_machine.specs.Alone.{StepsArePinned};
 ghost use Rattle.node_machine.specs.Shown.{ShownIsRead, SomeIsShown, StartIsShown};
 
 /// A law: what is read of a core is read of each state that it shows: which events are enabled, which nodes can act, from
@@ -12,4 +13,9 @@ pub fn shown_is_read()
 pub fn states_are_shown()
     ensures some { SomeIsShown }
     ensures start { StartIsShown }
+{}
+
+/// A law: how many steps of a node are made one after the other is pinned by the state before them.
+pub fn steps_on_are_pinned()
+    ensures { StepsArePinned }
 {}

@@ -14,6 +14,6 @@ mod reading;
 
 pub use causes::trap_has_cause;
 pub use cores::{ApplyFault, Core, Ran};
-pub use laws::{shown_is_read, states_are_shown};
+pub use laws::{shown_is_read, states_are_shown, steps_on_are_pinned};
 pub use machine::TileMachine;
 pub use nodes::Node;

@@ -2,11 +2,11 @@
 
 ghost use Rattle.std.specs.Prelude.{◌≡◌, ◌<◌, ◌≤◌, ◌+◌, [], All, length, map, nat_le, slice_set, slice_index, IfOk, OnOk};
 ghost use Rattle.event_journal.specs.Event.{acting_node};
-ghost use Rattle.node_machine.specs.Machine.{can_step, Acts, IsNode};
+ghost use Rattle.node_machine.specs.Machine.{can_step, IsNode};
 ghost use Rattle.node_machine.specs.declared.nodes.Node.TheVariants.{Tile};
 ghost use Rattle.node_machine.specs.Pending.{nothing_pending, with_message, with_messages, AreInboxes, first_of, queue_in, rest_of, with_rest};
 ghost use Rattle.node_machine.specs.Core.{with_envelopes, is_full};
-ghost use Rattle.node_machine.specs.Inner.{AreNodes, AreBelow, CanBeMade, CanStep, event_act, taken_act, inboxes_left, HasMade};
+ghost use Rattle.node_machine.specs.Inner.{AreNodes, HasActed, AreBelow, CanBeMade, CanStep, event_act, taken_act, inboxes_left, HasMade};
 
 use crate::nodes::Node;
 use crate::pending::Pending;
@@ -59,7 +59,7 @@ fn act(
 ) -> Result<Option<Action>, NoMemory>
     requires fits { IsNode world.now (acting_node event) node.old }
     requires can { CanStep event node.old }
-    ensures acts { Acts result node.new out.old.items out.new.items (event_act world.now event node.old pending.old.inboxes) }
+    ensures acts { HasActed result node.new out.old.items out.new.items (event_act world.now event node.old pending.old.inboxes) }
     ensures fits { IsNode world.now (acting_node event) node.new }
     ensures pending { pending.new ≡ record pending.old { inboxes = inboxes_left event pending.old.inboxes } }
 {
@@ -87,7 +87,7 @@ fn hand_over(
     out: &mut Out,
 ) -> Result<Option<Action>, NoMemory>
     requires fits { IsNode world.now id (Tile tile.old) }
-    ensures acts { Acts result (Tile tile.new) out.old.items out.new.items (taken_act world.now (Tile tile.old) from (first_of (queue_in pending.old.inboxes from id))) }
+    ensures acts { HasActed result (Tile tile.new) out.old.items out.new.items (taken_act world.now (Tile tile.old) from (first_of (queue_in pending.old.inboxes from id))) }
     ensures fits { IsNode world.now id (Tile tile.new) }
     ensures pending { pending.new ≡ record pending.old { inboxes = with_rest from id (rest_of (queue_in pending.old.inboxes from id)) pending.old.inboxes } }
 {
@@ -112,7 +112,7 @@ fn take_first(
     out: &mut Out,
 ) -> Result<Option<Action>, NoMemory>
     requires fits { IsNode world.now id node.old }
-    ensures acts { Acts result node.new out.old.items out.new.items (taken_act world.now node.old from (first_of (queue_in pending.old.inboxes from id))) }
+    ensures acts { HasActed result node.new out.old.items out.new.items (taken_act world.now node.old from (first_of (queue_in pending.old.inboxes from id))) }
     ensures fits { IsNode world.now id node.new }
     ensures pending { pending.new ≡ record pending.old { inboxes = with_rest from id (rest_of (queue_in pending.old.inboxes from id)) pending.old.inboxes } }
 {

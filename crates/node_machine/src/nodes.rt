@@ -63,7 +63,7 @@ impl Node {
     ) -> Result<Option<Action>, NoMemory>
         requires fits { IsNode world.now id self.old }
         requires can { can_step self.old ≡ true }
-        ensures acts { Acts result self.new out.old.items out.new.items (node_step world.now self.old) }
+        ensures acts { Acts result self.old self.new out.old.items out.new.items (node_step world.now self.old) }
         ensures fits { IsNode world.now id self.new }
     {
         match self {
@@ -85,7 +85,7 @@ impl Node {
         out: &mut Out,
     ) -> Result<Option<Action>, NoMemory>
         requires { IsNode world.now id self.old }
-        ensures acts { Acts result self.new out.old.items out.new.items (node_delivered world.now self.old from msg) }
+        ensures acts { Acts result self.old self.new out.old.items out.new.items (node_delivered world.now self.old from msg) }
         ensures fits { IsNode world.now id self.new }
     {
         match self {

@@ -109,9 +109,9 @@ pub goes_on : (w : Setup) (old new : CoreData) (events : List Event) (event : Ev
     → can_happen (rules w) (node_count w.config) (state_after w events) event ≡ true
     → Shows new (happens (rules w) (state_after w events) event)
     → IsUnderWay w new (events ++ event ∷ [])
-goes_on w old new events event under fits able can shows = record {
+goes_on w old new events event under fits not_spent can shows = record {
   fits = fits;
-  able = able;
+  not_spent = not_spent;
   shows = subst (Shows new) (sym (after-append (rules w) (start_state w) events (event ∷ []))) shows;
   run = run-append (rules w) (node_count w.config) (start_state w) events (event ∷ []) under.run (can, tt);
 }
@@ -153,7 +153,7 @@ module _ (w : Setup) (core : CoreData) (g : Lcg) (events : List Event) (under : 
   state_end = (shown_is_read w core (state_after w events) under.fits under.shows).end
 
   pub ran_at : (end : End) → end_in core ≡ Some end → IsRan w (record { journal = events; core = core; end = end })
-  ran_at end is = record { run = under.run; fits = under.fits; shows = under.shows; end = sym state_end ∙ is }
+  ran_at end is = record { run = under.run; fits = under.fits; not_spent = under.not_spent; shows = under.shows; end = sym state_end ∙ is }
 
   pub stuck_at : end_in core ≡ None → drawn_in core g ≡ None → IsStuck w events
   stuck_at no_end none = record {
@@ -176,7 +176,7 @@ module _ (w : Setup) (core : CoreData) (g : Lcg) (events : List Event) (under : 
     pub run_goes_on : (new : CoreData) (action : Option Action) → IsCore w new → new.spent ≡ false
         → ((s : State Node Msg) → Shows core s → IsMade w event action core new s)
         → IsUnderWay w new (events ++ event ∷ [])
-    run_goes_on new action fits able made = goes_on w core new events event under fits able event_can (made (state_after w events) under.shows).shows
+    run_goes_on new action fits not_spent made = goes_on w core new events event under fits not_spent event_can (made (state_after w events) under.shows).shows
 
     pub drawing_goes_on : IsDrawing w (after_draw g) (events ++ event ∷ [])
     drawing_goes_on = draws_on w g events event drawing (sym state_end ∙ no_end) drawn_here
@@ -186,7 +186,7 @@ module _ (w : Setup) (core : CoreData) (g : Lcg) (events : List Event) (under : 
 pub begins : (w : Setup) (core : CoreData) → core ≡ start_core w → IsCore w core → IsUnderWay w core []
 begins w core is fits = record {
   fits = fits;
-  able = ap (λ c. c.spent) is;
+  not_spent = ap (λ c. c.spent) is;
   shows = subst (λ c. Shows c (start_state w)) (sym is) (start_is_shown w);
   run = tt;
 }

@@ -1,6 +1,6 @@
 -- While one node alone can act, and its steps send nothing, the stream draws these steps, whatever its words are.
 use Rattle.std.proofs.Common.{◌≡◌, ℕ, zero, suc, ◌+◌, ◌-◌, ◌*◌, ◌%◌, ◌<◌, ◌≤◌, Bool, true, false, List, [], ◌∷◌, ◌++◌, length, map, replicate, take, refl, sym, ap, subst, ◌∙◌, arith, inl, inr, eq-eqb, length-append, append-nil}
-use Rattle.std.proofs.lemmas.List.{append_assoc, take_all}
+use Rattle.std.proofs.lemmas.List.{take_all}
 use Rattle.std.specs.Prelude.{Some, None, Ok, Err, cond, ◌||◌, ◌==◌, not, nat_lt, nat_le, slice_get}
 use Rattle.std.specs.List.{range_with_len, list_any}
 use Rattle.std.proofs.lemmas.Bool.{and_parts, true≢false}
@@ -178,7 +178,7 @@ pub steps_go_on : (w : Setup) (core new : CoreData) (g : Lcg) (events : List Eve
     → IsUnderWay w core events → IsDrawing w g events → end_in core ≡ None → IsLone core node
     → IsCore w new → new.spent ≡ false → ((s : State Node Msg) → Shows core s → AreMade w node n new s)
     → GoesOn w (Ok tt) new (after_draws g (steps_of node n)) events (events ++ steps_of node n)
-steps_go_on w core new g events node n under drawing no_end lone fits able each =
+steps_go_on w core new g events node n under drawing no_end lone fits not_spent each =
     let s : State Node Msg = state_after w events in
     let made : AreMade w node n new (state_after w events) = each (state_after w events) under.shows in
     let reads : ReadsAsShown w core (state_after w events) = shown_is_read w core (state_after w events) under.fits under.shows in
@@ -191,7 +191,7 @@ steps_go_on w core new g events node n under drawing no_end lone fits able each 
       omega (arith, length-append events (steps_of node n), steps_length node n, made.some),
       record {
         fits = fits;
-        able = able;
+        not_spent = not_spent;
         shows = subst (Shows new) (sym (after-append (rules w) (start_state w) events (steps_of node n))) made.shows;
         run = run-append (rules w) (node_count w.config) (start_state w) events (steps_of node n) under.run made.run;
       },

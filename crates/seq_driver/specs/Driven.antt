@@ -24,11 +24,12 @@ state_after w events = after (rules w) (start_state w) events
 abbrev pub IsJournal : Setup → List Event → Type 0
 IsJournal w events = IsRun (rules w) (node_count w.config) (start_state w) events
 
--- what was run: the journal is a run, the core is one of the machine and shows the state after it, and that state has
--- ended so
+-- what was run: the journal is a run, the core is one of the machine, isn't spent and shows the state after it, and that
+-- state has ended so
 pub record IsRan (w : Setup) (ran : Ran) : Type 0 where
   pub run : IsJournal w ran.journal
   pub fits : IsCore w ran.core
+  pub not_spent : ran.core.spent ≡ false
   pub shows : Shows ran.core (state_after w ran.journal)
   pub end : end_of w (state_after w ran.journal) ≡ Some ran.end
 

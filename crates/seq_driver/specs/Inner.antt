@@ -33,7 +33,7 @@ after_draws g (event ∷ events) = after_draws (after_draw g) events
 -- run; the stream drew them
 pub record IsUnderWay (w : Setup) (core : CoreData) (events : List Event) : Type 0 where
   pub fits : IsCore w core
-  pub able : core.spent ≡ false
+  pub not_spent : core.spent ≡ false
   pub shows : Shows core (state_after w events)
   pub run : IsJournal w events
 

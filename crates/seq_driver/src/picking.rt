@@ -67,7 +67,7 @@ impl Stream {
 /// The event that the stream's next two words pick, if some node can act. So many can.
 #[inline]
 pub(crate) fn drawn_event(core: &Core, stream: &mut Stream, count: usize) -> Option<Event>
-    requires able { core.now.spent ≡ false }
+    requires not_spent { core.now.spent ≡ false }
     requires count { count ≡ length (acting_in core.now) }
     ensures event { result ≡ drawn_in core.now stream.old }
     ensures after { stream.new ≡ after_draw stream.old }
@@ -75,7 +75,7 @@ pub(crate) fn drawn_event(core: &Core, stream: &mut Stream, count: usize) -> Opt
     let first = stream.next();
     let second = stream.next();
     let divisors = &stream.divisors;
-    let place = place_of(divisors, first, count)?;
+    let place = picked_place(divisors, first, count)?;
     let node = core.acting().get(place)?;
     choice(
         divisors,
@@ -89,7 +89,7 @@ pub(crate) fn drawn_event(core: &Core, stream: &mut Stream, count: usize) -> Opt
 /// The node that alone can act, where of so many that can act there is but one, and where all that it can do is to step.
 #[inline]
 pub(crate) fn lone_stepper(core: &Core, count: usize) -> Option<NodeId>
-    requires able { core.now.spent ≡ false }
+    requires not_spent { core.now.spent ≡ false }
     requires count { count ≡ length (acting_in core.now) }
     ensures { IfSome result (IsLone core.now) }
 {
@@ -105,7 +105,7 @@ pub(crate) fn lone_stepper(core: &Core, count: usize) -> Option<NodeId>
 }
 
 /// The place that a word picks of so many: the word modulo their number.
-fn place_of(divisors: &Divisors, word: u32, count: usize) -> Option<usize>
+fn picked_place(divisors: &Divisors, word: u32, count: usize) -> Option<usize>
     ensures none { result ≡ None → count ≡ 0 }
     ensures place { IfSome result (λ place. place ≡ word % count) }
     ensures within { IfSome result (λ place. place < count) }
@@ -127,7 +127,7 @@ fn choice(
     ensures { result ≡ picked (choices_in can_step node senders.now) word }
 {
     let steps = if can_step { 1 } else { 0 };
-    let place = place_of(divisors, word, steps + senders.len())?;
+    let place = picked_place(divisors, word, steps + senders.len())?;
     if place < steps {
         return Some(Event::Step { node });
     }

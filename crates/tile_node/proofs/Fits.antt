@@ -1,5 +1,5 @@
 -- Each act of a tile that fits a machine leaves one that does.
-use Rattle.std.proofs.Common.{◌≡◌, ℕ, ◌+◌, ◌<◌, true, false, Bool, None, Some, refl, inl, inr, arith}
+use Rattle.std.proofs.Common.{◌≡◌, ℕ, ◌+◌, ◌<◌, true, false, Bool, None, Some, refl, sym, ◌∙◌, inl, inr, arith}
 use Rattle.std.specs.Prelude.{Option, ◌==◌, ◌&&◌}
 use Rattle.std.proofs.lemmas.Bool.{cases_Bool}
 use Rattle.std.proofs.lemmas.Bool.Decides.{nat_tests}
@@ -34,7 +34,7 @@ first_waits : (w : Setup) (tile : ℕ) → WaitsRightly (first_core w tile).stat
 first_waits w tile = elim (cases_Bool (tile == 0)) [ inl first ↦ rw first tt | inr other ↦ rw other tt ]
 
 pub start_fits : (w : Setup) (tile : ℕ) → tile < w.config.tiles → IsOf w (start_tile w tile)
-start_fits w tile h = record { number = h; home = refl; tiles = refl; stream = refl; waits = first_waits w tile }
+start_fits w tile h = record { number = h; home = refl; tiles = refl; stream = record { tiles = refl; tile = refl }; waits = first_waits w tile }
 
 -- the step
 
@@ -49,7 +49,7 @@ writing_waits (Miss access) write e = cc
 writing_waits (Probing writing partner replies) write e = cc
 
 probes_fits : (w : Setup) (t : Tile) → IsOf w t → IsOf w (probes t).tile
-probes_fits w t h = record { number = h.number; home = h.home; tiles = h.tiles; stream = h.stream; waits = omega arith }
+probes_fits w t h = record { number = h.number; home = h.home; tiles = h.tiles; stream = record { tiles = h.stream.tiles; tile = h.stream.tile }; waits = omega arith }
 
 byte_fits : (w : Setup) (t : Tile) (addr : ℕ) (found : Option Way) → IsOf w t → is_writing t.core.status ≡ true → is_gathered t.core.write ≡ false
     → IsOf w (reads_byte_by w t addr found).tile
@@ -187,6 +187,6 @@ kept_fits w old new k h = record {
   number = rw k.number h.number;
   home = rw (k.home, k.number) h.home;
   tiles = rw k.tiles h.tiles;
-  stream = rw k.stream h.stream;
+  stream = record { tiles = k.stream ∙ h.stream.tiles; tile = k.asker ∙ h.stream.tile ∙ sym k.number };
   waits = rw k.core h.waits;
 }

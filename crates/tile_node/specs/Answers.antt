@@ -7,6 +7,7 @@ use Rattle.wire_msg.specs.declared.messages.Msg.{Msg}
 use Rattle.tile_core.specs.declared.cores.Status.{Status}
 use Rattle.tile_core.specs.declared.cores.Status.TheVariants.{Miss, Probing}
 use Rattle.tile_core.specs.Gathering.{Gathering}
+use Rattle.clock_policy.specs.Probe.{IsStreamOf}
 use Rattle.tile_node.specs.Tile.{Tile, Act, sent_by}
 
 -- what is known of a core that waits: the byte that a miss is for is one of its write's, and there was no eighth reply to
@@ -22,7 +23,7 @@ pub record IsOf (w : Setup) (t : Tile) : Type 0 where
   pub number : t.number < w.config.tiles
   pub home : t.slice.tile ≡ t.number
   pub tiles : t.slice.tiles ≡ w.config.tiles
-  pub stream : t.probes.tiles ≡ w.config.tiles
+  pub stream : IsStreamOf w.config t.number t.probes
   pub waits : WaitsRightly t.core.status t.core.write
 
 -- what a step or a delivery answers: Ok where the tile wasn't spent, with the tile and the action of the act, and with

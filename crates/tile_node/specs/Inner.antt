@@ -25,6 +25,7 @@ pub record IsKept (old new : Tile) : Type 0 where
   pub home : new.slice.tile ≡ old.slice.tile
   pub tiles : new.slice.tiles ≡ old.slice.tiles
   pub stream : new.probes.tiles ≡ old.probes.tiles
+  pub asker : new.probes.tile ≡ old.probes.tile
   pub core : new.core ≡ old.core
 
 -- what a rule's function answers

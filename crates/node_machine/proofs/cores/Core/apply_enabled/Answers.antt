@@ -1,5 +1,5 @@
 -- The event was made of the nodes and of what is pending, so it is made of each state that the core showed.
-use Rattle.std.proofs.Common.{◌≡◌, true, false, Some, [], length, refl, ap, ◌∙◌, rules}
+use Rattle.std.proofs.Common.{◌≡◌, Some, [], length, refl, ap, ◌∙◌, rules}
 use Rattle.std.specs.Prelude.{slice_get}
 use Rattle.std.proofs.lemmas.List.{length-set}
 use Rattle.sim_base.specs.Numbering.{node_count}

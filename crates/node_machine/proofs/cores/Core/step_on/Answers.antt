@@ -41,9 +41,9 @@ returns-clause-steps c =
     let at : slice_get c.self.inside.nodes.items c.args.node ≡ Some there.node = search (there, rules) in
     let done : StepsAreDone c.args.world.now c.args.node c.steps_at_once-most.result c.in-Ok.count there.node c.self.inside.nodes.items c.step_all.new.nodes.items c.self.inside.pending c.step_all.new.pending =
     c.in-Ok.ensures.stepped there.node at in
-    let able : c.args.self.now.spent ≡ false = search rules in
+    let not_spent : c.args.self.now.spent ≡ false = search rules in
     let before : c.self.inside.pending.inboxes ≡ c.args.self.now.inboxes = search rules in (
-      able,
+      not_spent,
       refl,
       λ s shows. steps_made c.args.world.now c.args.self.now _ s c.self.inside.pending c.step_all.new.pending there.node c.args.node c.steps_at_once-most.result c.in-Ok.count
           c.requires shows before refl (search (there.node_at, rules)) (search (done, rules)) (search rules) there.room c.steps_at_once-most.ensures.tile c.steps_at_once-most.ensures.other,
