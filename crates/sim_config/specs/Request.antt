@@ -26,8 +26,8 @@ pub mod Bench
 -- The commands
 
 -- the command of a name
-abbrev pub command_of : List ℕ → Option Command
-command_of name =
+abbrev pub command_named : List ℕ → Option Command
+command_named name =
     if bytes_eq name (codes "run") then Some command.Run
     else (if bytes_eq name (codes "replay") then Some command.Replay
     else (if bytes_eq name (codes "gen") then Some command.Gen
@@ -56,7 +56,7 @@ command_meaning command words = option_and_then (request_of command) (given_in (
 -- the request that words mean, if they mean one: the first is the command
 unfoldable pub meaning : List (List ℕ) → Option Request
 meaning [] = None
-meaning (name ∷ words) = option_and_then (λ command. command_meaning command words) (command_of name)
+meaning (name ∷ words) = option_and_then (λ command. command_meaning command words) (command_named name)
 
 -- an answer tells what words mean, or that memory ran out
 abbrev pub TellsRequest : Result Request RequestFault → Option Request → Type 0
@@ -65,6 +65,13 @@ TellsRequest (Err Usage) meant = meant ≡ None
 TellsRequest (Err NoMemory) meant = Unit {0}
 
 -- What a request names
+
+-- the command that makes a request
+abbrev pub asked_command : Request → Command
+asked_command (request.Run image config seed journal) = command.Run
+asked_command (request.Replay image journal config seed) = command.Replay
+asked_command (request.Gen kind seed out) = command.Gen
+asked_command (request.Bench seed) = command.Bench
 
 -- the file of the image that is run
 abbrev pub image_name : Request → Option (List ℕ)

@@ -2,7 +2,7 @@
 //! workload.
 ghost use Rattle.std.specs.Prelude.{◌≡◌, option_copied};
 ghost use Rattle.sim_base.specs.Settings.{IsChecked};
-ghost use Rattle.sim_config.specs.Request.{TellsRequest, command_of, config_name, form_of, image_name, journal_name, replayed_name, request_of, seed_of, settings_unnamed, workload_name, workload_of};
+ghost use Rattle.sim_config.specs.Request.{TellsRequest, asked_command, command_named, config_name, form_of, image_name, journal_name, replayed_name, request_of, seed_of, settings_unnamed, workload_name, workload_of};
 ghost use Rattle.sim_config.specs.Inner.{IsTakenByClap, given_found, lent_form};
 
 mod bench;
@@ -51,17 +51,21 @@ pub enum Request {
 
 /// What the first word asks for.
 #[derive(Clone, Copy, Drop)]
-pub(crate) enum Command {
+pub enum Command {
+    /// To run an image.
     Run,
+    /// To make the run of a journal again.
     Replay,
+    /// To write a workload.
     Gen,
+    /// To run a workload.
     Bench,
 }
 
 impl Command {
     /// The command of a name.
-    pub(crate) fn of_name(name: &str) -> Option<Command>
-        ensures { result ≡ command_of name.now }
+    pub(crate) fn named(name: &str) -> Option<Command>
+        ensures { result ≡ command_named name.now }
     {
         if name == "run" {
             Some(Command::Run)
@@ -107,6 +111,18 @@ impl Command {
 }
 
 impl Request {
+    /// The command that makes the request.
+    pub fn command(&self) -> Command
+        ensures { result ≡ asked_command self.now }
+    {
+        match self {
+            Request::Run { .. } => Command::Run,
+            Request::Replay { .. } => Command::Replay,
+            Request::Gen { .. } => Command::Gen,
+            Request::Bench { .. } => Command::Bench,
+        }
+    }
+
     /// The file of the image that is run, if one is read.
     pub fn image_name(&self) -> Option<&Text>
         ensures { option_copied result ≡ image_name self.now }

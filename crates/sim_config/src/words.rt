@@ -27,7 +27,7 @@ pub fn request_of(alloc: Global, words: &[Text]) -> Result<Request, RequestFault
     ensures { TellsRequest result (meaning words.now) }
 {
     match words {
-        [name, words @ ..] => match Command::of_name(name.as_str()) {
+        [name, words @ ..] => match Command::named(name.as_str()) {
             Some(command) => command_request(alloc, command, words),
             None => Err(RequestFault::Usage),
         },
