@@ -94,8 +94,8 @@ settings_unnamed _ = default_settings
 abbrev pub seed_of : Request → Option ℕ
 seed_of (request.Run image config seed journal) = seed
 seed_of (request.Replay image journal config seed) = seed
-seed_of (request.Gen kind seed out) = None
 seed_of (request.Bench seed) = Some seed
+seed_of _ = None
 
 -- the file of the journal that is replayed
 abbrev pub replayed_name : Request → Option (List ℕ)
@@ -121,6 +121,5 @@ workload_name _ = None
 -- the names that the words give for writing, in the order in which the files are written
 abbrev pub written_names : Request → List (List ℕ)
 written_names (request.Run image config seed journal) = option_to_list journal
-written_names (request.Replay image journal config seed) = []
 written_names (request.Gen kind seed out) = out ∷ []
-written_names (request.Bench seed) = []
+written_names _ = []

@@ -129,7 +129,7 @@ impl Request {
     {
         match self {
             Request::Run { image, .. } | Request::Replay { image, .. } => Some(image),
-            Request::Gen { .. } | Request::Bench { .. } => None,
+            _ => None,
         }
     }
 
@@ -139,7 +139,7 @@ impl Request {
     {
         match self {
             Request::Run { config, .. } | Request::Replay { config, .. } => config.as_ref(),
-            Request::Gen { .. } | Request::Bench { .. } => None,
+            _ => None,
         }
     }
 
@@ -154,7 +154,7 @@ impl Request {
                 tiles: BENCH_TILES,
                 ..settings
             },
-            Request::Run { .. } | Request::Replay { .. } | Request::Gen { .. } => settings,
+            _ => settings,
         }
     }
 
@@ -165,7 +165,7 @@ impl Request {
         match self {
             Request::Run { seed, .. } | Request::Replay { seed, .. } => *seed,
             Request::Bench { seed } => Some(*seed),
-            Request::Gen { .. } => None,
+            _ => None,
         }
     }
 
@@ -175,7 +175,7 @@ impl Request {
     {
         match self {
             Request::Replay { journal, .. } => Some(journal),
-            Request::Run { .. } | Request::Gen { .. } | Request::Bench { .. } => None,
+            _ => None,
         }
     }
 
@@ -185,7 +185,7 @@ impl Request {
     {
         match self {
             Request::Run { journal, .. } => journal.as_ref(),
-            Request::Replay { .. } | Request::Gen { .. } | Request::Bench { .. } => None,
+            _ => None,
         }
     }
 
@@ -196,7 +196,7 @@ impl Request {
         match self {
             Request::Gen { kind, seed, .. } => Some((*kind, *seed)),
             Request::Bench { seed } => Some((Kind::Reduce, *seed)),
-            Request::Run { .. } | Request::Replay { .. } => None,
+            _ => None,
         }
     }
 
@@ -206,7 +206,7 @@ impl Request {
     {
         match self {
             Request::Gen { out, .. } => Some(out),
-            Request::Run { .. } | Request::Replay { .. } | Request::Bench { .. } => None,
+            _ => None,
         }
     }
 }
