@@ -1,4 +1,5 @@
 //! What clap finds, by its name: texts, numbers, flags.
+
 ghost use Rattle.std.specs.Prelude.{◌≡◌, option_and_then, IfOk};
 ghost use Rattle.std.specs.Option.{ok_or};
 ghost use Rattle.clap.specs.Words.{first_value, found_of};

@@ -1,5 +1,6 @@
 //! The commands, the requests that they make, and what a request names: the files that are read and written, the seed, the
 //! workload.
+
 ghost use Rattle.std.specs.Prelude.{◌≡◌, option_copied};
 ghost use Rattle.sim_base.specs.Settings.{IsChecked};
 ghost use Rattle.sim_config.specs.Request.{TellsRequest, asked_command, command_named, config_name, form_of, image_name, journal_name, replayed_name, request_of, seed_of, settings_unnamed, workload_name, workload_of};

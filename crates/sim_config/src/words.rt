@@ -1,4 +1,5 @@
 //! From the words of the command line to the request that they mean.
+
 ghost use Rattle.sim_config.specs.Words.{given_in};
 ghost use Rattle.sim_config.specs.Request.{TellsRequest, command_meaning, meaning};
 ghost use Rattle.sim_config.specs.Inner.{IsTakenByClap, TellsGiven, lent_form};
