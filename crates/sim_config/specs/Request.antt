@@ -41,17 +41,17 @@ form_of command.Gen = gen_form
 form_of command.Bench = bench_form
 
 -- the request that a command with these values makes, if it makes one
-abbrev pub request_of : Command → Given → Option Request
-request_of command.Run given = run_of given
-request_of command.Replay given = replay_of given
-request_of command.Gen given = gen_of given
-request_of command.Bench given = bench_of given
+abbrev pub request_made : Command → Given → Option Request
+request_made command.Run given = run_of given
+request_made command.Replay given = replay_of given
+request_made command.Gen given = gen_of given
+request_made command.Bench given = bench_of given
 
 -- What words mean
 
 -- the request of a command with the words after it
 abbrev pub command_meaning : Command → List (List ℕ) → Option Request
-command_meaning command words = option_and_then (request_of command) (given_in (form_of command) words)
+command_meaning command words = option_and_then (request_made command) (given_in (form_of command) words)
 
 -- the request that words mean, if they mean one: the first is the command
 unfoldable pub meaning : List (List ℕ) → Option Request

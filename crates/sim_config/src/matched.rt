@@ -3,7 +3,7 @@
 ghost use Rattle.std.specs.Prelude.{◌≡◌, option_and_then, IfOk};
 ghost use Rattle.std.specs.Option.{ok_or};
 ghost use Rattle.clap.specs.Words.{first_value, found_of};
-ghost use Rattle.sim_config.specs.Words.{number_of, optional_number};
+ghost use Rattle.sim_config.specs.Words.{optional_number, word_number};
 ghost use Rattle.sim_config.specs.Inner.{is_true};
 ghost use Rattle.sim_config.specs.declared.faults.RequestFault.TheVariants.{Usage};
 
@@ -29,7 +29,7 @@ pub(crate) fn text_at(
 
 /// The number of a name. Words that give none have no meaning.
 pub(crate) fn number_at(matches: &ArgMatches<'_>, name: &str) -> Result<u64, RequestFault>
-    ensures { result ≡ ok_or (option_and_then number_of (first_value (found_of matches.now) name.now)) Usage }
+    ensures { result ≡ ok_or (option_and_then word_number (first_value (found_of matches.now) name.now)) Usage }
 {
     match matches.get_str(name) {
         Some(word) => number_of(word).ok_or(RequestFault::Usage),

@@ -3,7 +3,7 @@
 
 ghost use Rattle.std.specs.Prelude.{◌≡◌, option_copied};
 ghost use Rattle.sim_base.specs.Settings.{IsChecked};
-ghost use Rattle.sim_config.specs.Request.{TellsRequest, asked_command, command_named, config_name, form_of, image_name, journal_name, replayed_name, request_of, seed_of, settings_unnamed, workload_name, workload_of};
+ghost use Rattle.sim_config.specs.Request.{TellsRequest, asked_command, command_named, config_name, form_of, image_name, journal_name, replayed_name, request_made, seed_of, settings_unnamed, workload_name, workload_of};
 ghost use Rattle.sim_config.specs.Inner.{IsTakenByClap, given_found, lent_form};
 
 mod bench;
@@ -100,7 +100,7 @@ impl Command {
         alloc: Global,
         matches: &ArgMatches<'_>,
     ) -> Result<Request, RequestFault>
-        ensures { TellsRequest result (request_of self (given_found (form_of self) matches.now)) }
+        ensures { TellsRequest result (request_made self (given_found (form_of self) matches.now)) }
     {
         match self {
             Command::Run => run::read(alloc, matches),
