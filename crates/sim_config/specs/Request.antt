@@ -26,8 +26,8 @@ pub mod Bench
 -- The commands
 
 -- the command of a name
-abbrev pub command_of : List ℕ → Option Command
-command_of name =
+abbrev pub command_named : List ℕ → Option Command
+command_named name =
     if bytes_eq name (codes "run") then Some command.Run
     else (if bytes_eq name (codes "replay") then Some command.Replay
     else (if bytes_eq name (codes "gen") then Some command.Gen
@@ -41,22 +41,22 @@ form_of command.Gen = gen_form
 form_of command.Bench = bench_form
 
 -- the request that a command with these values makes, if it makes one
-abbrev pub request_of : Command → Given → Option Request
-request_of command.Run given = run_of given
-request_of command.Replay given = replay_of given
-request_of command.Gen given = gen_of given
-request_of command.Bench given = bench_of given
+abbrev pub request_made : Command → Given → Option Request
+request_made command.Run given = run_of given
+request_made command.Replay given = replay_of given
+request_made command.Gen given = gen_of given
+request_made command.Bench given = bench_of given
 
 -- What words mean
 
 -- the request of a command with the words after it
 abbrev pub command_meaning : Command → List (List ℕ) → Option Request
-command_meaning command words = option_and_then (request_of command) (given_in (form_of command) words)
+command_meaning command words = option_and_then (request_made command) (given_in (form_of command) words)
 
 -- the request that words mean, if they mean one: the first is the command
 unfoldable pub meaning : List (List ℕ) → Option Request
 meaning [] = None
-meaning (name ∷ words) = option_and_then (λ command. command_meaning command words) (command_of name)
+meaning (name ∷ words) = option_and_then (λ command. command_meaning command words) (command_named name)
 
 -- an answer tells what words mean, or that memory ran out
 abbrev pub TellsRequest : Result Request RequestFault → Option Request → Type 0
@@ -65,6 +65,13 @@ TellsRequest (Err Usage) meant = meant ≡ None
 TellsRequest (Err NoMemory) meant = Unit {0}
 
 -- What a request names
+
+-- the command that makes a request
+abbrev pub asked_command : Request → Command
+asked_command (request.Run image config seed journal) = command.Run
+asked_command (request.Replay image journal config seed) = command.Replay
+asked_command (request.Gen kind seed out) = command.Gen
+asked_command (request.Bench seed) = command.Bench
 
 -- the file of the image that is run
 abbrev pub image_name : Request → Option (List ℕ)
@@ -87,8 +94,8 @@ settings_unnamed _ = default_settings
 abbrev pub seed_of : Request → Option ℕ
 seed_of (request.Run image config seed journal) = seed
 seed_of (request.Replay image journal config seed) = seed
-seed_of (request.Gen kind seed out) = None
 seed_of (request.Bench seed) = Some seed
+seed_of _ = None
 
 -- the file of the journal that is replayed
 abbrev pub replayed_name : Request → Option (List ℕ)
@@ -114,6 +121,5 @@ workload_name _ = None
 -- the names that the words give for writing, in the order in which the files are written
 abbrev pub written_names : Request → List (List ℕ)
 written_names (request.Run image config seed journal) = option_to_list journal
-written_names (request.Replay image journal config seed) = []
 written_names (request.Gen kind seed out) = out ∷ []
-written_names (request.Bench seed) = []
+written_names _ = []

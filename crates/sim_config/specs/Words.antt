@@ -126,10 +126,10 @@ abbrev pub is_numeral : List ℕ → Bool
 is_numeral word = list_all is_ascii_digit word && has_no_leading_zero word
 
 -- the number that a word is, at most 2 ^ 64 - 1
-abbrev pub number_of : List ℕ → Option ℕ
-number_of word = if is_numeral word && nat_lt (digits_value 10 word) (2 ^ 64) then Some (digits_value 10 word) else None
+abbrev pub word_number : List ℕ → Option ℕ
+word_number word = if is_numeral word && nat_lt (digits_value 10 word) (2 ^ 64) then Some (digits_value 10 word) else None
 
 -- the number of a word that may be left out; none where there is a word that is no number
 abbrev pub optional_number : Option (List ℕ) → Option (Option ℕ)
 optional_number None = Some None
-optional_number (Some word) = option_map (λ number. Some number) (number_of word)
+optional_number (Some word) = option_map (λ number. Some number) (word_number word)

@@ -1,4 +1,5 @@
 //! What words may follow a command.
+
 /// The names of a command's positionals, in order; of its options, each of which has a value; and of its flags, which
 /// have none.
 #[derive(Drop)]

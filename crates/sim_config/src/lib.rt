@@ -17,5 +17,5 @@ mod words;
 pub use faults::{ConfigFault, RequestFault};
 pub use file::{MOST_BYTES, config_of};
 pub use keys::key_of;
-pub use request::Request;
+pub use request::{Command, Request};
 pub use words::request_of;

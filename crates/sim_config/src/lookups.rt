@@ -1,5 +1,6 @@
 //! What words give, read without taking memory: the value of a name, and whether a flag stands. It waits for `--threads` of
 //! `run`, which is looked for before there is memory.
+
 ghost use Rattle.std.specs.Prelude.{◌≡◌, false, option_and_then, option_copied};
 ghost use Rattle.std.specs.Option.{option_map_or};
 ghost use Rattle.sim_config.specs.Words.{given_in};

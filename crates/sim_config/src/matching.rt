@@ -1,4 +1,5 @@
 //! What clap finds in words that keep the rules.
+
 ghost use Rattle.std.specs.Prelude.{◌≡◌, Some, IfOk, IfErr, map, true, is_some};
 ghost use Rattle.clap.specs.Words.{app_of, kind_of, new_rule};
 ghost use Rattle.clap.specs.declared.error.kind.ErrorKind.TheVariants.{OutOfMemory};

@@ -3,12 +3,12 @@
 ghost use Rattle.std.specs.Prelude.{◌≡◌};
 ghost use Rattle.std.specs.Char.{is_ascii_digit};
 ghost use Rattle.std.specs.List.{list_all};
-ghost use Rattle.sim_config.specs.Words.{has_no_leading_zero, is_numeral, number_of};
+ghost use Rattle.sim_config.specs.Words.{has_no_leading_zero, is_numeral, word_number};
 
 /// The number that a word is: decimal digits without a sign and without a zero in front, but for `0` itself, at most
 /// 2^64 - 1.
 pub(crate) fn number_of(word: &str) -> Option<u64>
-    ensures { result ≡ number_of word.now }
+    ensures { result ≡ word_number word.now }
 {
     if is_numeral(word.as_bytes()) {
         word.parse::<u64>().ok()

@@ -1,8 +1,9 @@
 //! The commands, the requests that they make, and what a request names: the files that are read and written, the seed, the
 //! workload.
+
 ghost use Rattle.std.specs.Prelude.{◌≡◌, option_copied};
 ghost use Rattle.sim_base.specs.Settings.{IsChecked};
-ghost use Rattle.sim_config.specs.Request.{TellsRequest, command_of, config_name, form_of, image_name, journal_name, replayed_name, request_of, seed_of, settings_unnamed, workload_name, workload_of};
+ghost use Rattle.sim_config.specs.Request.{TellsRequest, asked_command, command_named, config_name, form_of, image_name, journal_name, replayed_name, request_made, seed_of, settings_unnamed, workload_name, workload_of};
 ghost use Rattle.sim_config.specs.Inner.{IsTakenByClap, given_found, lent_form};
 
 mod bench;
@@ -51,17 +52,21 @@ pub enum Request {
 
 /// What the first word asks for.
 #[derive(Clone, Copy, Drop)]
-pub(crate) enum Command {
+pub enum Command {
+    /// To run an image.
     Run,
+    /// To make the run of a journal again.
     Replay,
+    /// To write a workload.
     Gen,
+    /// To run a workload.
     Bench,
 }
 
 impl Command {
     /// The command of a name.
-    pub(crate) fn of_name(name: &str) -> Option<Command>
-        ensures { result ≡ command_of name.now }
+    pub(crate) fn named(name: &str) -> Option<Command>
+        ensures { result ≡ command_named name.now }
     {
         if name == "run" {
             Some(Command::Run)
@@ -95,7 +100,7 @@ impl Command {
         alloc: Global,
         matches: &ArgMatches<'_>,
     ) -> Result<Request, RequestFault>
-        ensures { TellsRequest result (request_of self (given_found (form_of self) matches.now)) }
+        ensures { TellsRequest result (request_made self (given_found (form_of self) matches.now)) }
     {
         match self {
             Command::Run => run::read(alloc, matches),
@@ -107,13 +112,25 @@ impl Command {
 }
 
 impl Request {
+    /// The command that makes the request.
+    pub fn command(&self) -> Command
+        ensures { result ≡ asked_command self.now }
+    {
+        match self {
+            Request::Run { .. } => Command::Run,
+            Request::Replay { .. } => Command::Replay,
+            Request::Gen { .. } => Command::Gen,
+            Request::Bench { .. } => Command::Bench,
+        }
+    }
+
     /// The file of the image that is run, if one is read.
     pub fn image_name(&self) -> Option<&Text>
         ensures { option_copied result ≡ image_name self.now }
     {
         match self {
             Request::Run { image, .. } | Request::Replay { image, .. } => Some(image),
-            Request::Gen { .. } | Request::Bench { .. } => None,
+            _ => None,
         }
     }
 
@@ -123,7 +140,7 @@ impl Request {
     {
         match self {
             Request::Run { config, .. } | Request::Replay { config, .. } => config.as_ref(),
-            Request::Gen { .. } | Request::Bench { .. } => None,
+            _ => None,
         }
     }
 
@@ -138,7 +155,7 @@ impl Request {
                 tiles: BENCH_TILES,
                 ..settings
             },
-            Request::Run { .. } | Request::Replay { .. } | Request::Gen { .. } => settings,
+            _ => settings,
         }
     }
 
@@ -149,7 +166,7 @@ impl Request {
         match self {
             Request::Run { seed, .. } | Request::Replay { seed, .. } => *seed,
             Request::Bench { seed } => Some(*seed),
-            Request::Gen { .. } => None,
+            _ => None,
         }
     }
 
@@ -159,7 +176,7 @@ impl Request {
     {
         match self {
             Request::Replay { journal, .. } => Some(journal),
-            Request::Run { .. } | Request::Gen { .. } | Request::Bench { .. } => None,
+            _ => None,
         }
     }
 
@@ -169,7 +186,7 @@ impl Request {
     {
         match self {
             Request::Run { journal, .. } => journal.as_ref(),
-            Request::Replay { .. } | Request::Gen { .. } | Request::Bench { .. } => None,
+            _ => None,
         }
     }
 
@@ -180,7 +197,7 @@ impl Request {
         match self {
             Request::Gen { kind, seed, .. } => Some((*kind, *seed)),
             Request::Bench { seed } => Some((Kind::Reduce, *seed)),
-            Request::Run { .. } | Request::Replay { .. } => None,
+            _ => None,
         }
     }
 
@@ -190,7 +207,7 @@ impl Request {
     {
         match self {
             Request::Gen { out, .. } => Some(out),
-            Request::Run { .. } | Request::Replay { .. } | Request::Bench { .. } => None,
+            _ => None,
         }
     }
 }

@@ -1,4 +1,5 @@
 //! The rules of the words after a command, tested before clap sees them, without taking memory.
+
 ghost use Rattle.std.specs.Prelude.{◌≡◌, ◌∷◌, ℕ, List, None, true, false, is_some, option_copied, option_map};
 ghost use Rattle.std.specs.List.{list_any, position};
 ghost use Rattle.sim_config.specs.Words.{CommandForm, is_equals_sign, is_plain, is_use_of, has_name, name_and_value, dashed_name, uses_from, uses_in, with_option};

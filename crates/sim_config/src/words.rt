@@ -1,4 +1,5 @@
 //! From the words of the command line to the request that they mean.
+
 ghost use Rattle.sim_config.specs.Words.{given_in};
 ghost use Rattle.sim_config.specs.Request.{TellsRequest, command_meaning, meaning};
 ghost use Rattle.sim_config.specs.Inner.{IsTakenByClap, TellsGiven, lent_form};
@@ -27,7 +28,7 @@ pub fn request_of(alloc: Global, words: &[Text]) -> Result<Request, RequestFault
     ensures { TellsRequest result (meaning words.now) }
 {
     match words {
-        [name, words @ ..] => match Command::of_name(name.as_str()) {
+        [name, words @ ..] => match Command::named(name.as_str()) {
             Some(command) => command_request(alloc, command, words),
             None => Err(RequestFault::Usage),
         },

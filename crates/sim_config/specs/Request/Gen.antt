@@ -5,7 +5,7 @@ use Rattle.sim_base.specs.declared.kinds.Kind.{Kind}
 use Rattle.sim_base.specs.declared.kinds.Kind.TheVariants.{Lock, Barrier, Pipeline, Reduce}
 use Rattle.sim_config.specs.declared.request.Request.{Request}
 use Rattle.sim_config.specs.declared.request.Request.TheVariants as request
-use Rattle.sim_config.specs.Words.{CommandForm, Given, number_of}
+use Rattle.sim_config.specs.Words.{CommandForm, Given, word_number}
 
 abbrev pub gen_form : CommandForm
 gen_form = record { positionals = codes "kind" ∷ codes "seed" ∷ codes "out" ∷ []; options = []; flags = [] }
@@ -23,4 +23,4 @@ abbrev pub gen_of : Given → Option Request
 gen_of given =
     option_and_then (λ kind. option_and_then (λ seed. option_map (λ out.
     request.Gen kind seed out)
-    (given.value (codes "out"))) (option_and_then number_of (given.value (codes "seed")))) (option_and_then kind_of (given.value (codes "kind")))
+    (given.value (codes "out"))) (option_and_then word_number (given.value (codes "seed")))) (option_and_then kind_of (given.value (codes "kind")))

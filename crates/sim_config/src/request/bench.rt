@@ -1,4 +1,5 @@
 //! `bench SEED`
+
 ghost use Rattle.std.specs.Prelude.{◌≡◌};
 ghost use Rattle.sim_config.specs.Inner.{given_found, lent_form};
 ghost use Rattle.sim_config.specs.Request.{TellsRequest};

@@ -1,4 +1,5 @@
 //! `gen KIND SEED OUT`, of the kind `lock`, `barrier`, `pipeline` or `reduce`
+
 ghost use Rattle.std.specs.Prelude.{◌≡◌, option_and_then, codes};
 ghost use Rattle.std.specs.Option.{ok_or};
 ghost use Rattle.clap.specs.Words.{first_value, found_of};

@@ -1,4 +1,5 @@
 //! `replay IMAGE JOURNAL [--config FILE] [--seed N]`
+
 ghost use Rattle.std.specs.Prelude.{◌≡◌};
 ghost use Rattle.sim_config.specs.Inner.{given_found, lent_form};
 ghost use Rattle.sim_config.specs.Request.{TellsRequest};
