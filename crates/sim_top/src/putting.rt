@@ -1,3 +1,4 @@
+//! Putting a whole text on a stream.
 ghost use Rattle.sim_top.specs.PutAll.{PutsAll};
 
 use sim_outside::{Failed, Sink};
