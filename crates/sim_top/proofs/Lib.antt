@@ -1,5 +1,10 @@
 pub mod TookLemmas
 pub mod StageLemmas
-pub mod DecideLemmas
-pub mod AnswerLemmas
-pub mod AbsentLemmas
+pub mod FileLemmas
+pub mod AskedLemmas
+pub mod CommandLemmas
+pub mod WriteLemmas
+pub mod AlgebraLemmas
+pub mod DrawnLemmas
+pub mod CauseLemmas
+pub mod VerdictLemmas

@@ -2,12 +2,17 @@
 
 pub mod Text
 pub mod PutAll
+pub mod Stage
+pub mod Verdict
+pub mod Runs
 pub mod Asked
-pub mod Decided
+pub mod Commands
 pub mod Answer
+pub mod Causes
 pub mod Inner
 pub use Rattle.workload_gen.specs.Workload
 pub use Rattle.sim_config.specs.Words
+pub use Rattle.sim_config.specs.Request
 pub use Rattle.sim_config.specs.SettingsFile
 pub use Rattle.journal_file.specs.File
 pub use Rattle.journal_file.specs.Reading

@@ -1,5 +1,4 @@
-//! The line that says why there was no run.
-
+//! The lines that are printed where there was no run.
 ghost use Rattle.std.specs.Prelude.{◌≡◌, IfOk, codes, ◌++◌, string_bytes};
 ghost use Rattle.stats_report.specs.Text.{line};
 ghost use Rattle.sim_top.specs.Text.{fault_text, journal_text};

@@ -1,12 +1,9 @@
-//! Settings, images and journals from files, each read up to its limit.
-
-ghost use Rattle.std.specs.Prelude.{◌≡◌, ◌<◌, IfOk, Result};
+//! Reading the files that a request names.
+ghost use Rattle.std.specs.Prelude.{◌≡◌, IfOk};
 ghost use Rattle.sim_base.specs.Settings.{IsChecked};
-ghost use Rattle.elf_image.specs.Image.{image_of};
-ghost use Rattle.journal_file.specs.Reading.{reading};
-ghost use Rattle.sim_config.specs.SettingsFile.{settings};
-ghost use Rattle.sim_top.specs.declared.outcomes.Outcome.TheVariants.{BadConfig, BadImage};
-ghost use Rattle.sim_top.specs.Inner.{ReadsFile, Accepts, journal_refusal};
+ghost use Rattle.sim_top.specs.Stage.{in_file, reads};
+ghost use Rattle.sim_top.specs.Asked.{settings_said, image_said, journal_said};
+ghost use Rattle.sim_top.specs.Inner.{ReadsFile, Tells};
 
 use crate::outcomes::{Halt, JournalFault, Outcome};
 use elf_image::{FILE_LIMIT, Image, ImageFault, ImageRefusal, read_image};
@@ -23,7 +20,7 @@ pub(crate) fn settings_in<F: Files>(
     name: &str,
     files: &mut F,
 ) -> Result<Config, Halt>
-    ensures accepts { Accepts (F.holds files.old) (F.read_faults files.old) (F.read_faults files.new) name.now settings BadConfig result }
+    ensures stage { Tells (in_file name.now settings_said) (reads (F.holds files.old) (F.read_faults files.old) (F.read_faults files.new)) result }
     ensures checked { IfOk result IsChecked }
     ensures kept { F.holds files.new ≡ F.holds files.old }
     ensures writes { F.write_faults files.new ≡ F.write_faults files.old }
@@ -43,7 +40,7 @@ pub(crate) fn settings_in<F: Files>(
 
 /// The image of a file.
 pub(crate) fn image_in<F: Files>(alloc: Global, name: &str, files: &mut F) -> Result<Image, Halt>
-    ensures accepts { Accepts (F.holds files.old) (F.read_faults files.old) (F.read_faults files.new) name.now image_of BadImage result }
+    ensures stage { Tells (in_file name.now image_said) (reads (F.holds files.old) (F.read_faults files.old) (F.read_faults files.new)) result }
     ensures kept { F.holds files.new ≡ F.holds files.old }
     ensures writes { F.write_faults files.new ≡ F.write_faults files.old }
 {
@@ -66,7 +63,7 @@ pub(crate) fn journal_in<F: Files>(
     name: &str,
     files: &mut F,
 ) -> Result<Journal, Halt>
-    ensures accepts { Accepts (F.holds files.old) (F.read_faults files.old) (F.read_faults files.new) name.now reading journal_refusal result }
+    ensures stage { Tells (in_file name.now journal_said) (reads (F.holds files.old) (F.read_faults files.old) (F.read_faults files.new)) result }
     ensures kept { F.holds files.new ≡ F.holds files.old }
     ensures writes { F.write_faults files.new ≡ F.write_faults files.old }
 {
@@ -94,7 +91,7 @@ fn read_file<F: Files>(
     too_long: Outcome,
     files: &mut F,
 ) -> Result<Bytes, Halt>
-    ensures reads { ReadsFile (F.holds files.old) (F.read_faults files.old) (F.read_faults files.new) name.now limit too_long result }
+    ensures reads { ReadsFile (reads (F.holds files.old) (F.read_faults files.old) (F.read_faults files.new)) name.now limit too_long result }
     ensures kept { F.holds files.new ≡ F.holds files.old }
     ensures writes { F.write_faults files.new ≡ F.write_faults files.old }
 {

@@ -1,8 +1,9 @@
-//! The top call: from the words of the command line to the text that is printed, the journal that is written, and the status
+//! The top call: from the words of the command line to the text that is printed, the files that are written, and the status
 //! of the process.
 #![tactic(auto)]
 
 mod asked;
+mod commands;
 mod decision;
 mod faults;
 mod files;
@@ -12,4 +13,4 @@ mod top;
 
 pub use faults::fault_line;
 pub use outcomes::{Finish, JournalFault, Outcome};
-pub use top::{absent_is_read_fault, execute_alone};
+pub use top::execute_alone;

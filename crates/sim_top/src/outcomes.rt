@@ -1,5 +1,4 @@
-//! How a call of the simulator ends, and what it answers.
-
+//! How a call ended, and what it comes to before anything is put or written.
 ghost use Rattle.std.specs.Prelude.{◌≡◌};
 ghost use Rattle.sim_top.specs.declared.outcomes.Halt.TheVariants.{NoMemory as OutOfMemory};
 
@@ -32,7 +31,7 @@ pub enum Outcome {
     BadJournal { fault: JournalFault },
     /// A file couldn't be read.
     ReadFault,
-    /// The text couldn't be put, or the file couldn't be written.
+    /// The text couldn't be put, or a file couldn't be written.
     WriteFault,
     /// Memory ran out.
     NoMemory,
@@ -62,13 +61,14 @@ pub struct Finish {
     pub journal: Journal,
 }
 
-/// An outcome, with the journal of its run, the text that is to be put, and the file that is to be written after it.
+/// An outcome, with the journal of its run, the text that is to be put, and the files that are to be written after it, in
+/// order.
 #[derive(Drop)]
 pub(crate) struct Decision {
     pub outcome: Outcome,
     pub journal: Journal,
     pub text: Bytes,
-    pub file: Option<FileToWrite>,
+    pub files: Vec<FileToWrite>,
 }
 
 /// A file that is to be written: the journal of a run, or the image of a workload.
@@ -78,10 +78,10 @@ pub(crate) struct FileToWrite {
     pub bytes: Bytes,
 }
 
-/// Why a request comes to no end of a run.
+/// Why a stage of a call gives nothing.
 #[derive(Clone, Copy)]
 pub(crate) enum Halt {
-    /// It is refused, or its run gets stuck.
+    /// The call ends with this outcome.
     Refused { outcome: Outcome },
     /// Memory ran out.
     NoMemory,

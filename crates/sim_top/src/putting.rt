@@ -1,5 +1,4 @@
-//! How a text is put on a stream that may take it in pieces.
-
+//! Putting a whole text on a stream.
 ghost use Rattle.sim_top.specs.PutAll.{PutsAll};
 
 use sim_outside::{Failed, Sink};

@@ -1,15 +1,15 @@
-//! The whole simulator as one call, over files and a stream.
-
+//! The call itself.
 ghost use Rattle.std.specs.Prelude.{◌≡◌, []};
-ghost use Rattle.sim_top.specs.Answer.{Answers, AbsentIsReadFault};
-ghost use Rattle.sim_top.specs.Inner.{Stores};
+ghost use Rattle.sim_top.specs.Stage.{reads};
+ghost use Rattle.sim_top.specs.Answer.{Answers, stream, writes};
+ghost use Rattle.sim_top.specs.Inner.{Stores, WritesAll};
 ghost use Rattle.sim_top.specs.Text.{status_of};
 
 use crate::decision::decide;
-use crate::outcomes::{Decision, Finish, Outcome};
+use crate::outcomes::{Decision, FileToWrite, Finish, Outcome};
 use crate::putting::put_all;
 use event_journal::Journal;
-use sim_base::{NoMemory, Text};
+use sim_base::Text;
 use sim_outside::{Failed, Files, Sink, WriteAnswer};
 use std::alloc::Global;
 
@@ -24,25 +24,11 @@ pub fn execute_alone<F: Files, S: Sink>(
     out: &mut S,
 ) -> Finish
     ensures status { result.status ≡ status_of result.outcome }
-    ensures answer { Answers
-        (record {
-          words = words.now;
-          faults_before = F.read_faults files.old;
-          faults_now = F.read_faults files.new;
-          holds = F.holds files.old;
-        })
-        (record {
-          faults_before = S.faults out.old;
-          faults_now = S.faults out.new;
-          taken_before = S.taken out.old;
-          taken_now = S.taken out.new;
-          write_faults_before = F.write_faults files.old;
-          write_faults_now = F.write_faults files.new;
-          held = F.holds files.old;
-          holds = F.holds files.new;
-        })
-        result.outcome
-        result.journal }
+    ensures answer { Answers words.now
+        (reads (F.holds files.old) (F.read_faults files.old) (F.read_faults files.new))
+        (stream (S.faults out.old) (S.faults out.new) (S.taken out.old) (S.taken out.new))
+        (writes (F.holds files.old) (F.holds files.new) (F.write_faults files.old) (F.write_faults files.new))
+        result.outcome result.journal }
 {
     let Ok(decision) = decide(alloc, words, files) else {
         return finish(Outcome::NoMemory, no_events(alloc));
@@ -53,34 +39,30 @@ pub fn execute_alone<F: Files, S: Sink>(
     }
 }
 
-/// A law: where the words ask for a file that is read, what is read before it being accepted, and it is told that this file
-/// isn't there, a fault of reading is the only outcome that the clause `answer` of `execute_alone` leaves, but for a fault of
-/// the stream and want of memory.
-pub fn absent_is_read_fault()
-    ensures { AbsentIsReadFault }
-{}
-
-/// Writes the file of a decision, if it has one, and answers.
+/// Writes the files of a decision, and answers.
 fn store<F: Files>(alloc: Global, files: &mut F, decision: Decision) -> Finish
-    ensures stores { Stores decision result.outcome result.journal (F.holds files.old) (F.holds files.new)
-        (F.write_faults files.old) (F.write_faults files.new) decision.file }
+    ensures stores { Stores decision result.outcome result.journal
+        (writes (F.holds files.old) (F.holds files.new) (F.write_faults files.old) (F.write_faults files.new)) }
     ensures status { result.status ≡ status_of result.outcome }
     ensures reads { F.read_faults files.new ≡ F.read_faults files.old }
 {
-    let Decision {
-        outcome,
-        journal,
-        file,
-        ..
-    } = decision;
-    let Some(file) = file else {
-        return finish(outcome, journal);
-    };
-    match files.write_all(file.name.as_str(), file.bytes.as_slice()) {
-        Ok(()) => finish(outcome, journal),
-        Err(WriteAnswer::Failed) => finish(Outcome::WriteFault, journal),
+    match write_files(files, decision.files.as_slice()) {
+        Ok(()) => finish(decision.outcome, decision.journal),
+        Err(WriteAnswer::Failed) => finish(Outcome::WriteFault, decision.journal),
         Err(WriteAnswer::NoMemory) => finish(Outcome::NoMemory, no_events(alloc)),
     }
+}
+
+/// Writes files, in order, up to one that fails.
+fn write_files<F: Files>(files: &mut F, list: &[FileToWrite]) -> Result<(), WriteAnswer>
+    ensures writes { WritesAll result
+        (writes (F.holds files.old) (F.holds files.new) (F.write_faults files.old) (F.write_faults files.new)) list.now }
+    ensures reads { F.read_faults files.new ≡ F.read_faults files.old }
+{
+    for file in list {
+        files.write_all(file.name.as_str(), file.bytes.as_slice())?;
+    }
+    Ok(())
 }
 
 /// The journal without events.

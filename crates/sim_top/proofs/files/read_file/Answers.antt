@@ -1,6 +1,6 @@
 -- A file of which more than the limit was read is longer than the limit.
 use Rattle.std.proofs.Common.{refl, inr}
-use Rattle.sim_top.proofs.StageLemmas.{read_too_long, long_file}
+use Rattle.sim_top.proofs.FileLemmas.{read_too_long, long_file}
 use Rattle.sim_top.proofs.files.read_file.Goals as goal
 
 pub returns-in-Err-TooLong-clause-reads : goal.returns-in-Err-TooLong-clause-reads

@@ -1,33 +1,23 @@
--- The decision is answered.
-use Rattle.std.proofs.Common.{◌≡◌, sym, subst, rules}
-use Rattle.sim_outside.specs.Told.{Took}
-use Rattle.sim_top.specs.Answer.{Input, Output}
-use Rattle.sim_top.specs.Inner.{IsDecided, Stores}
-use Rattle.sim_top.proofs.AnswerLemmas.{stored}
+-- The verdict is answered.
+use Rattle.std.proofs.Common.{◌≡◌, ℕ, List, sym, subst, rules}
+use Rattle.sim_outside.specs.Told.{Contents}
+use Rattle.sim_top.specs.Answer.{IsPut, Writes, stream, writes}
+use Rattle.sim_top.specs.Commands.{Decides}
+use Rattle.sim_top.specs.Stage.{reads}
+use Rattle.sim_top.specs.Inner.{decided, Stores}
+use Rattle.sim_top.proofs.VerdictLemmas.{stored}
 use Rattle.sim_top.proofs.top.execute_alone.Goals as goal
 
 pub returns-in-Ok-put_all-clause-answer : goal.returns-in-Ok-put_all-clause-answer
 returns-in-Ok-put_all-clause-answer g c =
-    let input : Input = record {
-      words = c.args.words.now;
-      faults_before = g.F.Files.read_faults c.args.files.now;
-      faults_now = g.F.Files.read_faults c.store.new.files;
-      holds = g.F.Files.holds c.args.files.now;
-    } in
-    let output : Output = record {
-      faults_before = g.S.Sink.faults c.args.out.now;
-      faults_now = g.S.Sink.faults c.put_all.new.out;
-      taken_before = g.S.Sink.taken c.args.out.now;
-      taken_now = g.S.Sink.taken c.put_all.new.out;
-      write_faults_before = g.F.Files.write_faults c.args.files.now;
-      write_faults_now = g.F.Files.write_faults c.store.new.files;
-      held = g.F.Files.holds c.args.files.now;
-      holds = g.F.Files.holds c.store.new.files;
-    } in
-    let is : IsDecided input c.in-Ok.decision = subst (λ faults. IsDecided (record input { faults_now = faults }) c.in-Ok.decision) (sym c.store.ensures.reads) c.in-Ok.ensures.decision in
+    let r = reads (g.F.Files.holds c.args.files.now) (g.F.Files.read_faults c.args.files.now) (g.F.Files.read_faults c.store.new.files) in
+    let s = stream (g.S.Sink.faults c.args.out.now) (g.S.Sink.faults c.put_all.new.out) (g.S.Sink.taken c.args.out.now) (g.S.Sink.taken c.put_all.new.out) in
+    let w = λ (held : Contents) (before : List ℕ → ℕ). writes held (g.F.Files.holds c.store.new.files) before (g.F.Files.write_faults c.store.new.files) in
+    let decides : Decides c.args.words.now r (decided c.in-Ok.decision) =
+    subst (λ after. Decides c.args.words.now (reads (g.F.Files.holds c.args.files.now) (g.F.Files.read_faults c.args.files.now) after) (decided c.in-Ok.decision)) (sym c.store.ensures.reads) c.in-Ok.ensures.decision in
     let text : c.as_slice.result.now ≡ c.in-Ok.decision.text = search rules in
-    let took : Took output.taken_before output.taken_now c.in-Ok.decision.text = subst (Took output.taken_before output.taken_now) text c.in-Ok-put_all.ensures.0 in
-    let stores : Stores c.in-Ok.decision c.store.result.outcome c.store.result.journal output.held output.holds output.write_faults_before output.write_faults_now c.in-Ok.decision.file =
-    subst (λ held. Stores c.in-Ok.decision c.store.result.outcome c.store.result.journal held output.holds output.write_faults_before output.write_faults_now c.in-Ok.decision.file) c.in-Ok.ensures.kept
-    (subst (λ faults. Stores c.in-Ok.decision c.store.result.outcome c.store.result.journal (g.F.Files.holds c.decide.new.files) output.holds faults output.write_faults_now c.in-Ok.decision.file) c.in-Ok.ensures.writes c.store.ensures.stores) in
-    stored input output c.in-Ok.decision c.store.result.outcome c.store.result.journal took c.in-Ok-put_all.ensures.1 is stores
+    let put : IsPut s c.in-Ok.decision.text = subst (IsPut s) text (record { took = c.in-Ok-put_all.ensures.0; no_fault = c.in-Ok-put_all.ensures.1 }) in
+    let stores : Stores c.in-Ok.decision c.store.result.outcome c.store.result.journal (w (g.F.Files.holds c.args.files.now) (g.F.Files.write_faults c.args.files.now)) =
+    subst (λ held. Stores c.in-Ok.decision c.store.result.outcome c.store.result.journal (w held (g.F.Files.write_faults c.args.files.now))) c.in-Ok.ensures.kept
+    (subst (λ before. Stores c.in-Ok.decision c.store.result.outcome c.store.result.journal (w (g.F.Files.holds c.decide.new.files) before)) c.in-Ok.ensures.writes c.store.ensures.stores) in
+    stored c.args.words.now r s (w (g.F.Files.holds c.args.files.now) (g.F.Files.write_faults c.args.files.now)) c.in-Ok.decision c.store.result.outcome c.store.result.journal decides put stores

@@ -1,6 +1,0 @@
--- The law is a lemma.
-use Rattle.sim_top.proofs.AbsentLemmas as lemmas
-use Rattle.sim_top.proofs.top.absent_is_read_fault.Goals as goal
-
-pub returns : goal.returns
-returns c = lemmas.absent_is_read_fault
