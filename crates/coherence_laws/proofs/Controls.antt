@@ -32,6 +32,7 @@ use Rattle.event_journal.specs.State.{State, messages_to, changed, with_queue}
 use Rattle.node_machine.specs.declared.nodes.Node.{Node}
 use Rattle.node_machine.specs.declared.nodes.Node.TheVariants.{Tile, Control as ControlNode, Local}
 use Rattle.node_machine.specs.Machine.{of_control, of_local, change_of}
+use Rattle.event_journal.proofs.Views.{alike, silent_to, SaysNone, first_silent, first_skipped, first_said}
 use Rattle.coherence_laws.specs.Part.{Part, copy_at, check_wants, want_at, part_of, home_in, home_line}
 use Rattle.coherence_laws.proofs.Phases.{stranger, Phase, away, quiet, on_way, at_home, standing_of, phase_want, phase_up, phase_down, standing, with_down, with_dropped, with_fetch}
 use Rattle.coherence_laws.proofs.Moves.{part, IsNotWritten}
@@ -39,7 +40,7 @@ use Rattle.coherence_laws.proofs.Nodes.{equal, itself}
 use Rattle.coherence_laws.proofs.Take.{with_part, part_here, part_there, kept_at}
 use Rattle.coherence_laws.proofs.Acts.{stays_kept, asks_kept, drops_kept, fetch_kept, line_wanted, reads_kept}
 use Rattle.coherence_laws.proofs.View.{takes_other, takes_down}
-use Rattle.coherence_laws.proofs.Mail.{alike, silent_to, SaysNone, about_none, up_nothing, down_nothing, option_or_none, first_silent, first_skipped, first_said}
+use Rattle.coherence_laws.proofs.Mail.{about_none, up_nothing, down_nothing, option_or_none}
 use Rattle.coherence_laws.proofs.Holds.{IsUnended, IsNodeOf, Placed, KeptIn, Holds, taken_placed, acts_hold}
 use Rattle.coherence_laws.proofs.Servers.{IsElse, can_step_means, control_steps, IsForReaders, IsApart, control_apart, Reads, control_reads, Passes, control_passes, control_acknowledges, local_else}
 

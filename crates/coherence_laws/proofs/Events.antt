@@ -41,13 +41,14 @@ use Rattle.event_journal.specs.Run.{IsRun, can_happen, delivered, happens, after
 use Rattle.node_machine.specs.declared.nodes.Node.{Node}
 use Rattle.node_machine.specs.declared.nodes.Node.TheVariants.{Tile, Control as ControlNode, Local}
 use Rattle.node_machine.specs.Machine.{rules, start_state, start_node, node_step, node_delivered, can_step, change_of, of_tile}
+use Rattle.event_journal.proofs.Views.{first_said, first_silent}
 use Rattle.coherence_laws.specs.Part.{Part, copy_at, want_at, part_of, home_in, home_line}
 use Rattle.coherence_laws.specs.Coherence.{HasValue, IsCoherent}
 use Rattle.coherence_laws.specs.Laws.{value_by, value_then, reached, line_value, stepped_at, heard_at, value_after, value_along, AlwaysOneWriter, AlwaysCoherent, ValuesChange}
 use Rattle.coherence_laws.proofs.Phases.{away, quiet}
 use Rattle.coherence_laws.proofs.Nodes.{equal, itself}
 use Rattle.coherence_laws.proofs.Coherent.{Where, carried_at, in_memory, where_is, copy_data, reader_data, one_writer}
-use Rattle.coherence_laws.proofs.Mail.{up_or_not, option_or_none, up_nothing, down_nothing, about_other, first_said, first_silent}
+use Rattle.coherence_laws.proofs.Mail.{up_or_not, option_or_none, up_nothing, down_nothing, about_other}
 use Rattle.coherence_laws.proofs.Holds.{IsUnended, IsNodeOf, KeptIn, Holds}
 use Rattle.coherence_laws.proofs.Servers.{can_step_means, control_steps, control_apart, control_passes, control_acknowledges, control_drops}
 use Rattle.coherence_laws.proofs.Tiles.{tile_steps, tile_other, tile_word, tile_told, told_elsewhere, tile_hears}

@@ -1,8 +1,6 @@
 -- What holds of one line in a state, and what an act keeps of it.
-use Rattle.std.proofs.Common.{◌≡◌, ◌≢◌, ℕ, List, [], ◌∷◌, ◌++◌, Some, None, ◌==◌, sym, ap, ◌∙◌, inl, inr, subst}
-use Rattle.std.proofs.lemmas.Bool.{cases_Bool}
+use Rattle.std.proofs.Common.{◌≡◌, ◌≢◌, ℕ, List, [], ◌∷◌, ◌++◌, Some, None, sym, ◌∙◌, subst}
 use Rattle.std.specs.Prelude.{◌<◌, Option}
-use Rattle.std.specs.List.{filter_map}
 use Rattle.sim_base.specs.declared.ends.End.{End}
 use Rattle.sim_base.specs.declared.lines.LineData.{LineData}
 use Rattle.sim_base.specs.Numbering.{home_of, control_node}
@@ -20,11 +18,10 @@ use Rattle.node_machine.specs.declared.nodes.Node.{Node}
 use Rattle.node_machine.specs.declared.nodes.Node.TheVariants.{Tile, Control, Local}
 use Rattle.coherence_laws.specs.Part.{Part, copy_at, want_at, part_of, home_in, home_line}
 use Rattle.coherence_laws.proofs.Moves.{part}
-use Rattle.coherence_laws.proofs.Nodes.{equal}
 use Rattle.coherence_laws.proofs.Serve.{Kept}
 use Rattle.coherence_laws.proofs.Take.{with_part, kept_at}
-use Rattle.coherence_laws.proofs.View.{ups_stay, downs_stay, acts_alone, home_stays, queue_same, queue_there, queue_from}
-use Rattle.coherence_laws.proofs.Mail.{first_silent}
+use Rattle.event_journal.proofs.Views.{taken_silent}
+use Rattle.coherence_laws.proofs.View.{ups_stay, downs_stay, acts_alone, home_stays}
 
 -- which node is what; a check goes on only while the program hasn't ended
 abbrev pub IsUnended : Option Check → Option End → Type 0
@@ -50,23 +47,6 @@ KeptIn h v n = Kept h.state h.memory h.waiting v n
 pub record Holds (w : Setup) (s : State Node Msg) (k : ℕ) (v : LineData) : Type 0 where
   pub kept : KeptIn (home_line w s k) v (part_of w s k)
   pub placed : Placed w s k
-
--- a message is taken from a list; of what is left the list says no more
-taken_silent : {A : Type 0} (about : Msg → Option A) (s : State Node Msg) (i j : ℕ) (msg : Msg) (rest : List Msg) (from to : ℕ) → s.queue i j ≡ msg ∷ rest
-    → filter_map about (s.queue from to) ≡ [] → filter_map about ((with_queue s i j rest).queue from to) ≡ []
-taken_silent about s i j msg rest from to e none =
-    elim (cases_Bool (i == from)) [
-      | inl t ↦ elim (cases_Bool (j == to)) [
-        | inl u ↦
-            let here : filter_map about (s.queue i j) ≡ [] =
-            subst (λ a. filter_map about (s.queue a j) ≡ []) (sym (equal i from t)) (subst (λ b. filter_map about (s.queue from b) ≡ []) (sym (equal j to u)) none)
-            in
-            let left : filter_map about rest ≡ [] = (first_silent about msg rest (sym (ap (filter_map about) e) ∙ here)).1 in
-            queue_same (filter_map about) s i j rest (left ∙ sym here) from to ∙ none
-        | inr u ↦ ap (filter_map about) (queue_there s i j from to rest u) ∙ none
-      ]
-      | inr t ↦ ap (filter_map about) (queue_from s i j from to rest t) ∙ none
-    ]
 
 pub taken_placed : (w : Setup) (s : State Node Msg) (k i j : ℕ) (msg : Msg) (rest : List Msg) → s.queue i j ≡ msg ∷ rest → Placed w s k → Placed w (with_queue s i j rest) k
 taken_placed w s k i j msg rest e p = record {

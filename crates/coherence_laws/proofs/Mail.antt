@@ -1,9 +1,8 @@
 -- What messages say of a line: those of a list to one node, the first of a list, and what a tile tells elsewhere.
 use Rattle.std.proofs.Common.{◌≡◌, ◌≢◌, ℕ, Bool, true, false, List, [], ◌∷◌, Some, None, ◌==◌, if◌then◌else◌, refl, sym, ap, ◌∙◌, inl, inr}
-use Rattle.std.proofs.lemmas.Bool.{cases_Bool, cond-true, cond-false}
+use Rattle.std.proofs.lemmas.Bool.{cases_Bool, cond-false}
 use Rattle.std.proofs.lemmas.List.Elements.{All-nil, All-cons, All-head, All-tail, All-append, All-weaker}
 use Rattle.std.specs.Prelude.{Option, All, map, ◌⊎◌}
-use Rattle.std.specs.List.{filter_map, cons_option}
 use Rattle.std.specs.Option.{option_map_or}
 use Rattle.sim_base.specs.Numbering.{home_of}
 use Rattle.elf_image.specs.Layout.{Setup}
@@ -16,29 +15,8 @@ use Rattle.wire_msg.specs.Message.{line_of, up_of, down_of, is_about, up_about, 
 use Rattle.tile_node.specs.Tile.{Act, Told, told_message, up_message, sent_by}
 use Rattle.tile_node.specs.OneLineLaws.{IsToldTo, IsFromHome}
 use Rattle.event_journal.specs.State.{messages_to}
+use Rattle.event_journal.proofs.Views.{alike, SaysNone, silent_to}
 use Rattle.coherence_laws.proofs.Nodes.{equal}
-
-pub alike : {A : Type 0} (b : Bool) (x : A) → (if b then x else x) ≡ x
-alike true x = refl
-alike false x = refl
-
-first_to : {A : Type 0} (about : Msg → Option A) (y : ℕ) (m : ℕ × Msg) (all : List (ℕ × Msg))
-    → filter_map about (messages_to y (m ∷ all))
-    ≡ (if m.0 == y then cons_option (about m.1) (filter_map about (messages_to y all)) else filter_map about (messages_to y all))
-first_to about y m all = elim (cases_Bool (m.0 == y)) [ inl e ↦ rw e refl | inr e ↦ rw e refl ]
-
--- messages of which those to a node say nothing
-abbrev pub SaysNone : {A : Type 0} → (Msg → Option A) → ℕ → ℕ × Msg → Type 0
-SaysNone about y m = m.0 ≡ y → about m.1 ≡ None
-
-pub silent_to : {A : Type 0} (about : Msg → Option A) (y : ℕ) (all : List (ℕ × Msg)) → All (SaysNone about y) all → filter_map about (messages_to y all) ≡ []
-silent_to about y [] none = refl
-silent_to about y (m ∷ all) none =
-    let rest = silent_to about y all (All-tail (SaysNone about y) m all none) in
-    first_to about y m all ∙ elim (cases_Bool (m.0 == y)) [
-      | inl t ↦ cond-true (m.0 == y) _ _ t ∙ ap (λ o. cons_option o (filter_map about (messages_to y all))) (All-head (SaysNone about y) m all none (equal m.0 y t)) ∙ rest
-      | inr t ↦ cond-false (m.0 == y) _ _ t ∙ rest
-    ]
 
 -- a message about another line, or about none
 pub about_none : (k : ℕ) (msg : Msg) → line_of msg ≡ None → (up_about k msg ≡ None) × (down_about k msg ≡ None)
@@ -77,20 +55,6 @@ about_is line (Some n) e = ap Some (equal n line e)
 
 pub down_line : (line : ℕ) (msg : Msg) → down_about line msg ≢ None → line_of msg ≡ Some line
 down_line line msg some = about_is line (line_of msg) (said_of (is_about line msg) (down_of msg) some)
-
--- the first of a list
-first_none : {A : Type 0} (o : Option A) (rest : List A) → cons_option o rest ≡ [] → (o ≡ None) × (rest ≡ [])
-first_none None rest e = (refl, e)
-first_none (Some a) rest e = cc
-
-pub first_silent : {A : Type 0} (about : Msg → Option A) (msg : Msg) (rest : List Msg) → filter_map about (msg ∷ rest) ≡ [] → (about msg ≡ None) × (filter_map about rest ≡ [])
-first_silent about msg rest e = first_none (about msg) (filter_map about rest) e
-
-pub first_skipped : {A : Type 0} (about : Msg → Option A) (msg : Msg) (rest : List Msg) → about msg ≡ None → filter_map about (msg ∷ rest) ≡ filter_map about rest
-first_skipped about msg rest e = ap (λ o. cons_option o (filter_map about rest)) e
-
-pub first_said : {A : Type 0} (about : Msg → Option A) (msg : Msg) (rest : List Msg) (a : A) → about msg ≡ Some a → filter_map about (msg ∷ rest) ≡ a ∷ filter_map about rest
-first_said about msg rest a e = ap (λ o. cons_option o (filter_map about rest)) e
 
 -- what a tile tells goes to the lines' homes, so nothing to others
 

@@ -1,9 +1,7 @@
 -- The home takes a message from a node, and takes up what waits.
 use Rattle.std.proofs.Common.{◌≡◌, ℕ, Bool, true, false, List, [], ◌∷◌, ◌++◌, Some, None, ◌==◌, if◌then◌else◌, refl, sym, ap, ◌∙◌, inl, inr, append-nil, append_assoc, subst}
 use Rattle.std.proofs.lemmas.Bool.{cases_Bool, cond-true}
-use Rattle.std.proofs.lemmas.List.{map-append}
-use Rattle.std.proofs.lemmas.List.Elements.{filter-append, filter_map-append}
-use Rattle.std.specs.Prelude.{Option, map, filter}
+use Rattle.std.specs.Prelude.{Option, map}
 use Rattle.std.specs.List.{cons_option}
 use Rattle.std.specs.Option.{option_map}
 use Rattle.sim_base.specs.declared.lines.LineData.{LineData}
@@ -21,6 +19,7 @@ use Rattle.node_set.specs.NodeSet.{has_node, with_node, without}
 use Rattle.dir_slice.specs.Laws.{StateIsOrderly}
 use Rattle.dir_slice.proofs.Orderly.{keeps_orderly}
 use Rattle.event_journal.specs.State.{messages_to}
+use Rattle.event_journal.proofs.Views.{first_to, seen_append}
 use Rattle.coherence_laws.specs.Part.{Part}
 use Rattle.coherence_laws.proofs.Phases.{Standing, stranger, sharer, victim, owner, standing_of, requests_of, phase_up, part_in, standing, served, waits, Fits, Comes, with_up, sent}
 use Rattle.coherence_laws.proofs.Moves.{took_request, took_ack, took_put, after_answer, took_answer, given_to_read, given_to_write, part}
@@ -308,10 +307,7 @@ abbrev pub said_to : ℕ → List (ℕ × Msg) → ℕ → List Down
 said_to line mail y = downs line (messages_to y mail)
 
 pub said_to_append : (line : ℕ) (a b : Mail) (y : ℕ) → said_to line (a ++ b) y ≡ said_to line a y ++ said_to line b y
-said_to_append line a b y =
-    ap (λ l. downs line (map (λ (m : ℕ × Msg). m.1) l)) (filter-append (λ (m : ℕ × Msg). m.0 == y) a b)
-    ∙ ap (downs line) (map-append (λ (m : ℕ × Msg). m.1) (filter (λ (m : ℕ × Msg). m.0 == y) a) (filter (λ (m : ℕ × Msg). m.0 == y) b))
-    ∙ filter_map-append (down_about line) (messages_to y a) (messages_to y b)
+said_to_append line a b y = seen_append (down_about line) y a b
 
 message_to : (line : ℕ) (h : Home) (s : Sent) → (message line h s).0 ≡ receiver s
 message_to line h (drop_copy to) = refl
@@ -325,14 +321,11 @@ message_says line h (fetch Write to) = cond-true (line == line) _ None (itself l
 message_says line h (give Read to) = cond-true (line == line) _ None (itself line)
 message_says line h (give Write to) = cond-true (line == line) _ None (itself line)
 
-first_said : (line y : ℕ) (m : ℕ × Msg) (mail : Mail) → said_to line (m ∷ mail) y ≡ (if m.0 == y then cons_option (down_about line m.1) (said_to line mail y) else said_to line mail y)
-first_said line y m mail = elim (cases_Bool (m.0 == y)) [ inl e ↦ rw e refl | inr e ↦ rw e refl ]
-
 pub row_said : (line : ℕ) (h : Home) (all : List Sent) (y : ℕ) → said_to line (map (message line h) all) y ≡ words h.memory all y
 row_said line h [] y = refl
 row_said line h (s ∷ all) y =
     let ih = row_said line h all y in
-    first_said line y (message line h s) (map (message line h) all)
+    first_to (down_about line) y (message line h s) (map (message line h) all)
     ∙ ap (λ x. if x == y then cons_option (down_about line (message line h s).1) (said_to line (map (message line h) all) y) else said_to line (map (message line h) all) y) (message_to line h s)
     ∙ ap (λ o. if receiver s == y then cons_option o (said_to line (map (message line h) all) y) else said_to line (map (message line h) all) y) (message_says line h s)
     ∙ ap (λ l. if receiver s == y then said h.memory s ∷ l else l) ih

@@ -46,6 +46,7 @@ use Rattle.event_journal.specs.State.{State, messages_to, changed, with_queue}
 use Rattle.node_machine.specs.declared.nodes.Node.{Node}
 use Rattle.node_machine.specs.declared.nodes.Node.TheVariants.{Tile}
 use Rattle.node_machine.specs.Machine.{of_tile, change_of}
+use Rattle.event_journal.proofs.Views.{silent_to, SaysNone, first_skipped, first_said}
 use Rattle.coherence_laws.specs.Part.{Part, copy_at, want_at, part_of, home_in, home_line}
 use Rattle.coherence_laws.specs.Laws.{value_after}
 use Rattle.coherence_laws.proofs.Phases.{with_down, with_up, sent}
@@ -55,7 +56,7 @@ use Rattle.coherence_laws.proofs.Serve.{all_sent}
 use Rattle.coherence_laws.proofs.Take.{with_part, part_here, part_there, kept_at, home_takes, said_to}
 use Rattle.coherence_laws.proofs.Acts.{moved, IsOfStep, step_kept, word_kept, other_kept, waiting_leaves}
 use Rattle.coherence_laws.proofs.View.{home_sends, home_changes, takes_other, takes_down, takes_up, ups_stay, downs_stay}
-use Rattle.coherence_laws.proofs.Mail.{silent_to, SaysNone, about_none, about_other, up_nothing, down_nothing, first_skipped, first_said, GoesHome, acts_elsewhere, told_home}
+use Rattle.coherence_laws.proofs.Mail.{about_none, about_other, up_nothing, down_nothing, GoesHome, acts_elsewhere, told_home}
 use Rattle.coherence_laws.proofs.Holds.{Placed, KeptIn, Holds, taken_placed, acts_hold}
 
 -- a step is at a line nothing, an access or a request

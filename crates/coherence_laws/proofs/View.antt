@@ -1,5 +1,5 @@
 -- The machine seen at one line: what an event changes of each node's part of it, and of the line at its home.
-use Rattle.std.proofs.Common.{◌≡◌, ℕ, Bool, true, false, List, [], ◌++◌, ◌==◌, if◌then◌else◌, refl, sym, ap, ◌∙◌, inl, inr, append-nil, subst}
+use Rattle.std.proofs.Common.{◌≡◌, ℕ, true, List, [], ◌++◌, ◌==◌, if◌then◌else◌, refl, sym, ap, ◌∙◌, inl, inr, subst}
 use Rattle.std.proofs.lemmas.Bool.{cases_Bool, cond-true, cond-false}
 use Rattle.std.proofs.lemmas.List.Elements.{filter_map-append}
 use Rattle.std.specs.Prelude.{Option}
@@ -11,6 +11,7 @@ use Rattle.wire_msg.specs.declared.lines.Up.{Up}
 use Rattle.wire_msg.specs.Message.{Down, up_about, down_about, ups, downs}
 use Rattle.event_journal.specs.Rules.{Change}
 use Rattle.event_journal.specs.State.{State, messages_to, changed, with_queue}
+use Rattle.event_journal.proofs.Views.{view_after, view_stays, node_here, node_there, queue_here, queue_there, queue_from, queue_same}
 use Rattle.node_machine.specs.declared.nodes.Node.{Node}
 use Rattle.coherence_laws.specs.Part.{Part, copy_at, want_at, part_of, home_in, home_line}
 use Rattle.coherence_laws.proofs.Phases.{with_up, with_down, sent}
@@ -24,16 +25,6 @@ ups_append k a b = filter_map-append (up_about k) a b
 pub downs_append : (k : ℕ) (a b : List Msg) → downs k (a ++ b) ≡ downs k a ++ downs k b
 downs_append k a b = filter_map-append (down_about k) a b
 
--- one list or the other, seen by a function
-if_seen : {A B : Type 0} (f : A → B) (b : Bool) (x y : A) → f (if b then x else y) ≡ (if b then f x else f y)
-if_seen f true x y = refl
-if_seen f false x y = refl
-
--- what is added only in one case, and is nothing
-nothing_added : {A : Type 0} (b : Bool) (xs ys : List A) → ys ≡ [] → (if b then xs ++ ys else xs) ≡ xs
-nothing_added true xs ys e = ap (λ l. xs ++ l) e ∙ append-nil xs
-nothing_added false xs ys e = refl
-
 same_parts : {copy copy' : _} {want want' : Option Want} {up up' : List Up} {down down' : List Down} → copy ≡ copy' → want ≡ want' → up ≡ up' → down ≡ down' → part copy want up down ≡ part copy' want' up' down'
 same_parts a b c d = cc
 
@@ -41,38 +32,20 @@ same_parts a b c d = cc
 
 ups_after : (s : State Node Msg) (x : ℕ) (change : Change Node Msg) (k from to : ℕ)
     → ups k ((changed s x change).queue from to) ≡ (if from == x then ups k (s.queue from to) ++ ups k (messages_to to change.sent) else ups k (s.queue from to))
-ups_after s x change k from to =
-    if_seen (ups k) (from == x) (s.queue from to ++ messages_to to change.sent) (s.queue from to)
-    ∙ ap (λ l. if from == x then l else ups k (s.queue from to)) (ups_append k (s.queue from to) (messages_to to change.sent))
+ups_after s x change k from to = view_after (ups k) (ups_append k) s x change from to
 
 downs_after : (s : State Node Msg) (x : ℕ) (change : Change Node Msg) (k from to : ℕ)
     → downs k ((changed s x change).queue from to) ≡ (if from == x then downs k (s.queue from to) ++ downs k (messages_to to change.sent) else downs k (s.queue from to))
-downs_after s x change k from to =
-    if_seen (downs k) (from == x) (s.queue from to ++ messages_to to change.sent) (s.queue from to)
-    ∙ ap (λ l. if from == x then l else downs k (s.queue from to)) (downs_append k (s.queue from to) (messages_to to change.sent))
+downs_after s x change k from to = view_after (downs k) (downs_append k) s x change from to
 
 -- where it says nothing of the line there
 pub ups_stay : (s : State Node Msg) (x : ℕ) (change : Change Node Msg) (k from to : ℕ) → (from ≡ x → ups k (messages_to to change.sent) ≡ [])
     → ups k ((changed s x change).queue from to) ≡ ups k (s.queue from to)
-ups_stay s x change k from to none =
-    ups_after s x change k from to ∙ elim (cases_Bool (from == x)) [
-      | inl t ↦ nothing_added (from == x) (ups k (s.queue from to)) (ups k (messages_to to change.sent)) (none (equal from x t))
-      | inr t ↦ cond-false (from == x) _ _ t
-    ]
+ups_stay s x change k from to none = view_stays (ups k) (ups_append k) s x change from to none
 
 pub downs_stay : (s : State Node Msg) (x : ℕ) (change : Change Node Msg) (k from to : ℕ) → (from ≡ x → downs k (messages_to to change.sent) ≡ [])
     → downs k ((changed s x change).queue from to) ≡ downs k (s.queue from to)
-downs_stay s x change k from to none =
-    downs_after s x change k from to ∙ elim (cases_Bool (from == x)) [
-      | inl t ↦ nothing_added (from == x) (downs k (s.queue from to)) (downs k (messages_to to change.sent)) (none (equal from x t))
-      | inr t ↦ cond-false (from == x) _ _ t
-    ]
-
-node_here : (s : State Node Msg) (x : ℕ) (change : Change Node Msg) → (changed s x change).node x ≡ change.node
-node_here s x change = cond-true (x == x) change.node (s.node x) (itself x)
-
-node_there : (s : State Node Msg) (x y : ℕ) (change : Change Node Msg) → (x == y) ≡ false → (changed s x change).node y ≡ s.node y
-node_there s x y change e = cond-false (y == x) change.node (s.node y) (sym (turned x y) ∙ e)
+downs_stay s x change k from to none = view_stays (downs k) (downs_append k) s x change from to none
 
 -- a node that says nothing of the line from a home changes its own part of it alone
 pub acts_alone : (w : Setup) (s : State Node Msg) (k x : ℕ) (change : Change Node Msg) → ((y : ℕ) → downs k (messages_to y change.sent) ≡ []) → (y : ℕ)
@@ -126,34 +99,6 @@ pub home_changes : (w : Setup) (s : State Node Msg) (k x : ℕ) (change : Change
 home_changes w s k x change at = subst (λ z. home_in ((changed s x change).node z) k ≡ home_in change.node k) at (ap (λ m. home_in m k) (node_here s x change))
 
 -- a message is taken from a list
-
-queue_here : (s : State Node Msg) (i j : ℕ) (rest : List Msg) → (with_queue s i j rest).queue i j ≡ rest
-queue_here s i j rest = cond-true (i == i) _ _ (itself i) ∙ cond-true (j == j) _ _ (itself j)
-
-pub queue_there : (s : State Node Msg) (i j from to : ℕ) (rest : List Msg) → (j == to) ≡ false → (with_queue s i j rest).queue from to ≡ s.queue from to
-queue_there s i j from to rest e =
-    let ne : (to == j) ≡ false = sym (turned j to) ∙ e in
-    elim (cases_Bool (from == i)) [
-      | inl t ↦ cond-true (from == i) _ _ t ∙ cond-false (to == j) _ _ ne
-      | inr t ↦ cond-false (from == i) _ _ t
-    ]
-
-pub queue_from : (s : State Node Msg) (i j from to : ℕ) (rest : List Msg) → (i == from) ≡ false → (with_queue s i j rest).queue from to ≡ s.queue from to
-queue_from s i j from to rest e = cond-false (from == i) _ _ (sym (turned i from) ∙ e)
-
--- what is seen of a list is as before where the message taken isn't seen
-pub queue_same : {A : Type 0} (f : List Msg → A) (s : State Node Msg) (i j : ℕ) (rest : List Msg) → f rest ≡ f (s.queue i j) → (from to : ℕ)
-    → f ((with_queue s i j rest).queue from to) ≡ f (s.queue from to)
-queue_same f s i j rest e from to =
-    elim (cases_Bool (i == from)) [
-      | inl t ↦ elim (cases_Bool (j == to)) [
-        | inl u ↦
-            subst (λ a. f ((with_queue s i j rest).queue a to) ≡ f (s.queue a to)) (equal i from t)
-            (subst (λ b. f ((with_queue s i j rest).queue i b) ≡ f (s.queue i b)) (equal j to u) (ap f (queue_here s i j rest) ∙ e))
-        | inr u ↦ ap f (queue_there s i j from to rest u)
-      ]
-      | inr t ↦ ap f (queue_from s i j from to rest t)
-    ]
 
 -- one that says nothing of the line
 pub takes_other : (w : Setup) (s : State Node Msg) (k i j : ℕ) (rest : List Msg) → ups k rest ≡ ups k (s.queue i j) → downs k rest ≡ downs k (s.queue i j) → (y : ℕ)

@@ -1,3 +1,4 @@
 pub mod Queues
 pub mod Runs
 pub mod Unrolling
+pub mod Views
