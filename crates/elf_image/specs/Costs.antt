@@ -7,13 +7,13 @@ use Rattle.sim_base.specs.declared.settings.Config.{Config}
 use Rattle.mesh_model.specs.Cost.{cost_of}
 
 -- the place of a class in the table
-abbrev pub place_of : CostClass → ℕ
-place_of Alu = 0
-place_of Mul = 1
-place_of Div = 2
-place_of Mem = 3
-place_of Amo = 4
-place_of Call = 5
+abbrev pub class_place : CostClass → ℕ
+class_place Alu = 0
+class_place Mul = 1
+class_place Div = 2
+class_place Mem = 3
+class_place Amo = 4
+class_place Call = 5
 
 -- what an instruction of each class costs, in cycles, by the classes' places
 unfoldable pub costs_of : Config → List ℕ

@@ -6,7 +6,7 @@ ghost use Rattle.std.specs.Option.{option_copied};
 ghost use Rattle.rv_decode.specs.Valid.{IsValid};
 ghost use Rattle.elf_image.specs.Image.{IsSegment, IsProgram};
 ghost use Rattle.elf_image.specs.Layout.{layout_of, IsLaidOut, stack_end, last_end, round_up, is_heap, is_stack, is_free, AreFree, is_readable, is_writable, has_right, may, start_byte, initial_line, fetch, instruction};
-ghost use Rattle.elf_image.specs.Costs.{place_of, costs_of};
+ghost use Rattle.elf_image.specs.Costs.{class_place, costs_of};
 ghost use Rattle.sim_base.specs.Settings.{IsChecked};
 ghost use Rattle.mesh_model.specs.Cost.{cost_of};
 
@@ -64,16 +64,14 @@ pub struct World {
 }
 
 impl Model for World {
-    ghost use Rattle.std.specs.Prelude.{◌≡◌, ◌+◌};
-    ghost use Rattle.elf_image.specs.Costs.{costs_of};
-    ghost use Rattle.elf_image.specs.Layout.{Setup, IsLaidOut};
+    ghost use Rattle.elf_image.specs.Layout.{Setup};
+    ghost use Rattle.elf_image.specs.Inner.{IsWorld};
 
     ghost Value = { Setup };
 
     ghost view = { λ w. record { image = w.image; config = w.config } };
 
-    ghost invariant = { λ w.
-        IsLaidOut (record { image = w.image; config = w.config }) w.layout × (w.stride ≡ w.config.stack_bytes + 4096) × (w.costs ≡ costs_of w.config) };
+    ghost invariant = { λ w. IsWorld (record { image = w.image; config = w.config }) w.layout w.stride w.costs };
 }
 
 impl World {
@@ -125,7 +123,7 @@ impl World {
     pub fn cost(&self, class: CostClass) -> u64
         ensures { result ≡ cost_of self.now.config class }
     {
-        self.costs[place_of(class)]
+        self.costs[class_place(class)]
     }
 
     /// Where the heap window and the stacks lie.
@@ -337,8 +335,8 @@ fn costs_of(config: &Config) -> [u64; 6]
 
 /// The place of a class among the costs.
 #[inline(always)]
-fn place_of(class: CostClass) -> usize
-    ensures value { result ≡ place_of class }
+fn class_place(class: CostClass) -> usize
+    ensures value { result ≡ class_place class }
     ensures low { result < 6 }
 {
     match class {

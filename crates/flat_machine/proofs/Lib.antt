@@ -1,6 +1,7 @@
 pub mod MemoryLemmas
 pub mod StartLemmas
 pub mod MoveLemmas
+pub mod LowLemmas
 pub mod RunLemmas
 pub mod WriteLemmas
 pub mod ReservationLemmas

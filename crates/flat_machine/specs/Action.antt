@@ -1,6 +1,6 @@
 -- The actions of the flat machine, each a partial function: none means that it isn't legal. From the RISC-V ISA manual
 -- and this simulator's own rules, as the next step of a hart has them.
-use Rattle.std.specs.Prelude.{ℕ, ◌≡◌, ◌+◌, ◌==◌, ◌&&◌, Bool, true, false, not, [], ◌∷◌, ◌++◌, length, nat_lt, if◌then◌else◌, Option, Some, None, option_and_then, slice_get, slice_set}
+use Rattle.std.specs.Prelude.{ℕ, ◌≡◌, ◌+◌, ◌%◌, ◌^◌, ◌==◌, ◌&&◌, Bool, true, false, not, [], ◌∷◌, ◌++◌, length, nat_lt, if◌then◌else◌, Option, Some, None, option_and_then, slice_get, slice_set}
 use Rattle.std.specs.List.{list_any}
 use Rattle.std.specs.Option.{option_map}
 use Rattle.std.specs.Ordering.{nat_cmp}
@@ -22,7 +22,7 @@ use Rattle.rv_hart.specs.Step.{next_step}
 use Rattle.flat_machine.specs.declared.threads.Thread.{Thread}
 use Rattle.flat_machine.specs.declared.threads.Status.{Status}
 use Rattle.flat_machine.specs.declared.threads.Status.TheVariants.{New, Ready, Writing, Asked, Answered, Left, Trapped}
-use Rattle.flat_machine.specs.Memory.{byte_at, byte_around, with_byte}
+use Rattle.flat_machine.specs.Memory.{byte_at, with_byte}
 use Rattle.flat_machine.specs.State.{State, started, with_thread}
 use Rattle.flat_machine.specs.Reservation.{others_end}
 use Rattle.flat_machine.specs.Serving.{served}
@@ -107,11 +107,11 @@ failed_by w number t _ = None
 abbrev pub failed : Setup → ℕ → Thread → Option Thread
 failed w number t = failed_by w number t t.status
 
--- a write with bytes still to read reads the next one
+-- a write with bytes still to read reads the next one; addresses go on at 0 past 2^64 - 1
 abbrev pub loaded_by : FinMap nat_cmp ℕ → Thread → Status → Option Thread
 loaded_by memory t (Writing addr len bytes) =
     if nat_lt (length bytes) len
-    then Some (record t { status = Writing addr len (bytes ++ byte_around memory (addr + length bytes) ∷ []) })
+    then Some (record t { status = Writing addr len (bytes ++ byte_at memory ((addr + length bytes) % 2 ^ 64) ∷ []) })
     else None
 loaded_by memory t _ = None
 

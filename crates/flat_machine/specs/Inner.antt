@@ -1,6 +1,6 @@
 -- Words of this crate's private functions, which no promise to others needs: memory kept as contiguous regions, what an
 -- instruction gives on one thread, a thread's one action by its status, and parts of serving.
-use Rattle.std.specs.Prelude.{ℕ, ◌≡◌, ◌<◌, ◌+◌, ◌-◌, Bool, ◌&&◌, ◌||◌, true, nat_le, nat_lt, List, [], ◌∷◌, ◌++◌, length, map, replicate, if◌then◌else◌, slice_get, slice_index, slice_set, Option, Some, None, unwrap_or, Result, Ok, Err}
+use Rattle.std.specs.Prelude.{ℕ, ◌≡◌, ◌<◌, ◌≤◌, ◌+◌, ◌-◌, ◌^◌, Bool, ◌&&◌, ◌||◌, true, nat_le, nat_lt, List, [], ◌∷◌, ◌++◌, length, map, replicate, if◌then◌else◌, slice_get, slice_index, slice_set, Option, Some, None, unwrap_or, Result, Ok, Err}
 use Rattle.std.specs.List.{flat_map, list_all, range_with_len}
 use Rattle.std.specs.Option.{option_map_or}
 use Rattle.std.specs.Ordering.{nat_cmp}
@@ -39,6 +39,11 @@ cells start (byte ∷ bytes) = (start, byte) ∷ cells (start + 1) bytes
 -- the memory that the regions make: where two have an address, the first one's byte counts
 unfoldable pub memory_of : List Region → FinMap nat_cmp ℕ
 memory_of regions = from_entries (flat_map (λ r. cells r.start r.bytes) regions)
+
+-- no region has an address from 2^64 on
+abbrev pub AreLow : List Region → Type 0
+AreLow [] = Unit {0}
+AreLow (r ∷ rs) = (r.start + length r.bytes ≤ 2 ^ 64) × AreLow rs
 
 -- the byte of the first region that has the address
 abbrev pub found : List Region → ℕ → Option ℕ

@@ -1,5 +1,5 @@
 -- The flat machine's memory: a finite map from the mapped addresses to bytes.
-use Rattle.std.specs.Prelude.{ℕ, ◌%◌, ◌^◌, map, unwrap_or, if◌then◌else◌}
+use Rattle.std.specs.Prelude.{ℕ, map, unwrap_or, if◌then◌else◌}
 use Rattle.std.specs.Ordering.{nat_cmp}
 use Rattle.std.specs.Coded.{Coded, coded_ℕ}
 use Rattle.std.specs.FinMap.{FinMap, get, contains_key, insert, from_entries, code}
@@ -8,10 +8,6 @@ use Rattle.elf_image.specs.Layout.{Setup, mapped, start_byte}
 -- the byte at an address, 0 where nothing is mapped
 abbrev pub byte_at : FinMap nat_cmp ℕ → ℕ → ℕ
 byte_at memory address = unwrap_or (get memory address) 0
-
--- the byte at an address that is taken modulo 2^64, as addresses are that are counted up
-abbrev pub byte_around : FinMap nat_cmp ℕ → ℕ → ℕ
-byte_around memory address = byte_at memory (address % 2 ^ 64)
 
 -- the memory before the program runs: each mapped address has the byte that the image gives it, or 0
 unfoldable pub start_memory : Setup → FinMap nat_cmp ℕ

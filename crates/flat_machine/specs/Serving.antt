@@ -17,7 +17,7 @@ use Rattle.serving.specs.Serving.{Woken, Born, Own, answer, park, leave, Served,
 use Rattle.flat_machine.specs.declared.threads.Thread.{Thread}
 use Rattle.flat_machine.specs.declared.threads.Status.{Status}
 use Rattle.flat_machine.specs.declared.threads.Status.TheVariants.{Writing, Asked, Parked, Answered, Left, Trapped, Gone}
-use Rattle.flat_machine.specs.Memory.{byte_around}
+use Rattle.flat_machine.specs.Memory.{byte_at}
 use Rattle.flat_machine.specs.State.{State, new_thread, with_status}
 
 -- a thread's fate, by its status: it is live until its exit was served
@@ -45,7 +45,7 @@ request_at s number = option_and_then (λ t. request_of t.status) (slice_get s.t
 
 -- the number in the four bytes that a futex wait looks at
 abbrev pub word_of : FinMap nat_cmp ℕ → Request → ℕ
-word_of memory (CallRequest (FutexWait addr value)) = loaded (byte_around memory) addr 4
+word_of memory (CallRequest (FutexWait addr value)) = loaded (byte_at memory) addr 4
 word_of memory _ = 0
 
 -- threads by their fates. Who is parked joining a thread that has exited doesn't count any more

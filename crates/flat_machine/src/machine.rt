@@ -293,7 +293,7 @@ impl Flat {
             (wait_served (control_of self.old) number addr value (word_of self.old.memory (CallRequest (FutexWait addr value))))) }
         ensures err { OnErr result (self.new ≡ self.old) }
     {
-        if self.memory.word_around(addr) == value {
+        if self.memory.word(addr) == value {
             self.waiters.push(Waiter {
                 thread: number,
                 addr,

@@ -1,8 +1,10 @@
 //! The flat machine's memory: the bytes of the segments, the heap and the stacks.
 
-ghost use Rattle.std.specs.Prelude.{◌≡◌, ◌≤◌, ◌<◌, ◌+◌, ◌-◌, ◌*◌, ◌^◌, if◌then◌else◌, ◌++◌, OnOk, IfOk, IfSome, IsTrue, All, length, map};
+ghost use Rattle.std.specs.Prelude.{◌≡◌, ◌≤◌, ◌<◌, ◌+◌, ◌-◌, ◌*◌, ◌^◌, if◌then◌else◌, ◌++◌, ℕ, OnOk, IfOk, IfSome, IsTrue, All, length, map};
+ghost use Rattle.sim_base.specs.Settings.{IsChecked};
 ghost use Rattle.elf_image.specs.Image.{IsSegment, IsProgram};
-ghost use Rattle.flat_machine.specs.Memory.{byte_at, byte_around, with_byte, start_memory};
+ghost use Rattle.elf_image.specs.Layout.{heap_start};
+ghost use Rattle.flat_machine.specs.Memory.{byte_at, with_byte, start_memory};
 ghost use Rattle.flat_machine.specs.Inner.{has_address, byte_of, with_byte_in, segment_region, stack_region, start_regions};
 ghost use Rattle.std.specs.List.{range_with_len};
 ghost use Rattle.rv_exec.specs.Access.{is_size};
@@ -57,9 +59,11 @@ impl Model for Memory {
 
     ghost coded = { map.code coded_ℕ coded_ℕ };
 
-    ghost use Rattle.flat_machine.specs.Inner.{memory_of};
+    ghost use Rattle.flat_machine.specs.Inner.{memory_of, AreLow};
 
     ghost view = { λ m. memory_of m.regions.items };
+
+    ghost invariant = { λ m. AreLow m.regions.items };
 }
 
 impl Memory {
@@ -85,16 +89,38 @@ impl Memory {
         set_in(&mut self.regions, address, byte);
     }
 
+    /// The byte so many addresses further on, 0 where nothing is mapped.
+    fn byte_after(&self, address: u64, more: u64) -> u8
+        ensures { result ≡ byte_at self.now (address + more) }
+    {
+        match address.checked_add(more) {
+            Some(further) => self.byte(further),
+            None => self.nothing(),
+        }
+    }
+
+    /// What is read past all addresses: 0.
+    fn nothing(&self) -> u8
+        ensures value { result ≡ 0 }
+        ensures past { (address : ℕ) → 2 ^ 64 ≤ address → byte_at self.now address ≡ 0 }
+    {
+        // No region has an address from 2^64 on.
+        let _ = &self.regions;
+        0
+    }
+
     /// The number in the `size` bytes from an address on, little-endian. `size` is 1, 2, 4 or 8.
     pub fn load(&self, address: u64, size: u8) -> u64
-        requires sized { IsTrue (is_size size) }
-        requires fits { address + size ≤ 2 ^ 64 }
+        requires { IsTrue (is_size size) }
         ensures value { result ≡ loaded (byte_at self.now) address size }
         ensures small { result < 2 ^ (8 * size) }
     {
         match size {
             1 => u64::from(self.byte(address)),
-            2 => u64::from(LittleEndian::read_u16(&[self.byte(address), self.byte(address + 1)])),
+            2 => u64::from(LittleEndian::read_u16(&[
+                self.byte(address),
+                self.byte_after(address, 1),
+            ])),
             4 => u64::from(self.word(address)),
             8 => self.double_word(address),
             _ => unreachable!(),
@@ -102,44 +128,30 @@ impl Memory {
     }
 
     /// The number in the four bytes from an address on.
-    fn word(&self, address: u64) -> u32
-        requires { address + 4 ≤ 2 ^ 64 }
+    pub fn word(&self, address: u64) -> u32
         ensures { result ≡ loaded (byte_at self.now) address 4 }
     {
         LittleEndian::read_u32(&[
             self.byte(address),
-            self.byte(address + 1),
-            self.byte(address + 2),
-            self.byte(address + 3),
+            self.byte_after(address, 1),
+            self.byte_after(address, 2),
+            self.byte_after(address, 3),
         ])
     }
 
     /// The number in the eight bytes from an address on.
     fn double_word(&self, address: u64) -> u64
-        requires { address + 8 ≤ 2 ^ 64 }
         ensures { result ≡ loaded (byte_at self.now) address 8 }
     {
         LittleEndian::read_u64(&[
             self.byte(address),
-            self.byte(address + 1),
-            self.byte(address + 2),
-            self.byte(address + 3),
-            self.byte(address + 4),
-            self.byte(address + 5),
-            self.byte(address + 6),
-            self.byte(address + 7),
-        ])
-    }
-
-    /// The number in the four bytes from an address on, where addresses go on at 0 past 2^64 - 1.
-    pub fn word_around(&self, address: u64) -> u32
-        ensures { result ≡ loaded (byte_around self.now) address 4 }
-    {
-        LittleEndian::read_u32(&[
-            self.byte(address),
-            self.byte(address.wrapping_add(1)),
-            self.byte(address.wrapping_add(2)),
-            self.byte(address.wrapping_add(3)),
+            self.byte_after(address, 1),
+            self.byte_after(address, 2),
+            self.byte_after(address, 3),
+            self.byte_after(address, 4),
+            self.byte_after(address, 5),
+            self.byte_after(address, 6),
+            self.byte_after(address, 7),
         ])
     }
 
@@ -169,6 +181,8 @@ impl Memory {
 fn start_regions(alloc: Global, world: &World) -> Result<Vec<Region>, NoMemory>
     ensures regions { IfOk result (λ regions. regions.items ≡ start_regions world.now) }
     ensures program { IsProgram world.now.image }
+    ensures checked { OnOk result (IsChecked world.now.config) }
+    ensures low { OnOk result (heap_start world.now ≤ 2 ^ 32) }
 {
     let mut regions = segment_regions(alloc, world.image().segments())?;
     let start = world.layout().heap_start;

@@ -22,4 +22,4 @@ returns-after-loop-place c = ap as_line (filled_line c.args.self.now c.args.line
 pub returns-else-line-lt-LINE_END : goal.returns-else-line-lt-LINE_END
 returns-else-line-lt-LINE_END c =
     let high : 2 ^ 26 ≤ c.args.line = omega arith in
-    rw (← c.self.view_is) (ap as_line (zero_line _ _ c.args.line c.self.invariant.0 high))
+    rw (← c.self.view_is) (ap as_line (zero_line _ _ c.args.line c.self.invariant.laid_out high))

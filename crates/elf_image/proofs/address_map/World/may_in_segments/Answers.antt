@@ -7,7 +7,7 @@ pub returns-in_default : goal.returns-in_default
 returns-in_default c =
     let inside : c.args.addr < 2 ^ 64 = omega arith in
     let passes : 2 ^ 64 ≤ c.args.addr + c.args.size = omega arith in
-    sym (rw (← c.self.view_is) (passes_none _ _ c.args.right c.args.addr c.args.size c.self.invariant.0 inside passes))
+    sym (rw (← c.self.view_is) (passes_none _ _ c.args.right c.args.addr c.args.size c.self.invariant.laid_out inside passes))
 
 pub returns-then-grants_range : goal.returns-then-grants_range
 returns-then-grants_range c =
