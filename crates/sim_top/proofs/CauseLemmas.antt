@@ -17,7 +17,7 @@ use Rattle.sim_config.specs.declared.request.Request.{Request}
 use Rattle.sim_config.specs.declared.request.Request.TheVariants as asked
 use Rattle.sim_config.specs.Request.{config_name, image_name, settings_unnamed, seed_of, replayed_name, journal_name, workload_of, workload_name}
 use Rattle.sim_config.specs.SettingsFile.{settings as settings_in}
-use Rattle.sim_config.specs.Words.{meaning}
+use Rattle.sim_config.specs.Request.{meaning}
 use Rattle.seq_driver.specs.Driven.{IsDrawn, IsStuck}
 use Rattle.sim_top.specs.declared.outcomes.JournalFault.{JournalFault}
 use Rattle.sim_top.specs.declared.outcomes.Outcome.{Outcome}

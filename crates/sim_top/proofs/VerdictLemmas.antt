@@ -5,7 +5,7 @@ use Rattle.sim_base.specs.declared.ends.End.{End}
 use Rattle.sim_base.specs.declared.ends.End.TheVariants.{Exit, Trap, Deadlock, Budget}
 use Rattle.event_journal.specs.declared.events.Event.{Event}
 use Rattle.sim_config.specs.declared.request.Request.{Request}
-use Rattle.sim_config.specs.Words.{meaning}
+use Rattle.sim_config.specs.Request.{meaning}
 use Rattle.sim_top.specs.declared.outcomes.Outcome.{Outcome}
 use Rattle.sim_top.specs.declared.outcomes.Outcome.TheVariants.{Usage, WriteFault, NoMemory}
 use Rattle.sim_top.specs.Stage.{Reads}

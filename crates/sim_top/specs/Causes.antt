@@ -12,7 +12,7 @@ use Rattle.node_machine.specs.End.{end_of}
 use Rattle.seq_driver.specs.Driven.{state_after, IsJournal, IsDrawn, IsStuck}
 use Rattle.sim_config.specs.declared.request.Request.{Request}
 use Rattle.sim_config.specs.Request.{config_name, image_name, replayed_name, workload_name, written_names}
-use Rattle.sim_config.specs.Words.{meaning}
+use Rattle.sim_config.specs.Request.{meaning}
 use Rattle.sim_top.specs.declared.outcomes.JournalFault.{JournalFault}
 use Rattle.sim_top.specs.declared.outcomes.Outcome.{Outcome}
 use Rattle.sim_top.specs.declared.outcomes.Outcome.TheVariants.{Written, Stuck, Usage, BadConfig, BadImage, BadJournal, ReadFault, WriteFault, NoMemory}

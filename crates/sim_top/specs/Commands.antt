@@ -2,7 +2,7 @@
 use Rattle.std.specs.Prelude.{ℕ, List, Option, Some, None, Err}
 use Rattle.sim_config.specs.declared.request.Request.{Request}
 use Rattle.sim_config.specs.declared.request.Request.TheVariants as asked
-use Rattle.sim_config.specs.Words.{meaning}
+use Rattle.sim_config.specs.Request.{meaning}
 use Rattle.sim_top.specs.declared.outcomes.Outcome.TheVariants.{Usage}
 use Rattle.sim_top.specs.Stage.{Reads, Stage, answered}
 use Rattle.sim_top.specs.Verdict.{Verdict, ComesTo}
