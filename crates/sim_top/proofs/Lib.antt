@@ -8,3 +8,5 @@ pub mod AlgebraLemmas
 pub mod DrawnLemmas
 pub mod CauseLemmas
 pub mod VerdictLemmas
+pub mod OneLemmas
+pub mod LawLemmas

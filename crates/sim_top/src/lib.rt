@@ -7,10 +7,12 @@ mod commands;
 mod decision;
 mod faults;
 mod files;
+mod laws;
 mod outcomes;
 mod putting;
 mod top;
 
 pub use faults::fault_line;
+pub use laws::told_files_leave_one_verdict;
 pub use outcomes::{Finish, JournalFault, Outcome};
 pub use top::execute_alone;
