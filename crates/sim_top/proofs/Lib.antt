@@ -9,4 +9,7 @@ pub mod DrawnLemmas
 pub mod CauseLemmas
 pub mod VerdictLemmas
 pub mod OneLemmas
+pub mod WhyLemmas
+pub mod LostLemmas
 pub mod LawLemmas
+pub mod EndLemmas
