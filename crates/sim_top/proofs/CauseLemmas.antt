@@ -103,7 +103,7 @@ settings_cause request r o (inl (p, ends, e)) =
     settings_by request r o (inl (o, ends', refl)) (file_ends (config_name request) settings_in (λ field. BadConfig field) (given (settings_unnamed request)) r o ends')
 settings_cause request r o (inr (config, between, gives, never)) = absurd (cc (never.1))
 
-no_workload_ends : (which : Option (Kind × ℕ)) (r : Reads) (o : Outcome) → workload which r (Err o) → ⊥
+pub no_workload_ends : (which : Option (Kind × ℕ)) (r : Reads) (o : Outcome) → workload which r (Err o) → ⊥
 no_workload_ends None r o is = is.1
 no_workload_ends (Some (kind, seed)) r o is = is.1
 
@@ -227,7 +227,7 @@ module _ (request : Request) (r : Reads) where
       let same : v ≡ record (without_run Written) { files = files_of (option_to_list (workload_name request)) (file_of program) } = cc in
       (ap (λ u. u.outcome) same, out, named, file_of program, ap (λ u. u.files) same ∙ ap (λ name. files_of (option_to_list name) (file_of program)) named)
 
-  gen_err : image_name request ≡ None → (o : Outcome) → gen request r (Err o) → ⊥
+  pub gen_err : image_name request ≡ None → (o : Outcome) → gen request r (Err o) → ⊥
   unfolding gen
   gen_err none o (inl (p, ends, e)) = made_err p none ends
   gen_err none o (inr (program, between, has, (well, never))) = absurd (cc (never))

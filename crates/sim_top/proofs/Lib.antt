@@ -8,3 +8,8 @@ pub mod AlgebraLemmas
 pub mod DrawnLemmas
 pub mod CauseLemmas
 pub mod VerdictLemmas
+pub mod OneLemmas
+pub mod WhyLemmas
+pub mod LostLemmas
+pub mod LawLemmas
+pub mod EndLemmas

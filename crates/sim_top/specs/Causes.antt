@@ -122,3 +122,24 @@ WrittenIsExact = (words : List (List ℕ)) (r : Reads) (v : Verdict) → Decides
 abbrev pub WriteFaultHasCause : Type 0
 WriteFaultHasCause = (words : List (List ℕ)) (r : Reads) (s : Stream) (w : Writes) (journal : List Event) → Answers words r s w WriteFault journal
     → Rose s.faults_before s.faults_now ⊎ Means words (λ request. (name : List ℕ) × Contains (written_names request) name × Rose (w.before name) (w.now name))
+
+-- what words ask for is accepted: it is a workload's file; or it is a run, whose machine is accepted, and for a replay the
+-- journal, which is a whole run up to an end
+abbrev pub IsAccepted : Reads → Request → Type 0
+IsAccepted r request =
+    ((name : List ℕ) × (workload_name request ≡ Some name))
+    ⊎ ((w : Setup) × machine request (faultless r) (Ok w) × DrawsRun request)
+    ⊎ ((journal : List Event) × (end : End) × EndsSo r request journal end)
+
+-- the answer to what is accepted: an end, as the journal's state has it, or a file written; or a stuck run; or memory ran out
+abbrev pub IsCompleted : Reads → Request → Outcome → List Event → Type 0
+IsCompleted r request NoMemory journal = Unit {0}
+IsCompleted r request Stuck journal = StopsStuck r request
+IsCompleted r request Written journal = (name : List ℕ) × (workload_name request ≡ Some name)
+IsCompleted r request outcome journal = (end : End) × (outcome ≡ outcome_of end) × EndsSo r request journal end
+
+-- of told files, where nothing fails to be read, put or written, what is accepted is completed
+abbrev pub Complete : Type 0
+Complete = (words : List (List ℕ)) (r : Reads) (s : Stream) (w : Writes) (outcome : Outcome) (journal : List Event) (request : Request)
+    → IsToldWell r → s.faults_now < raised s.faults_before → ((name : List ℕ) → w.now name < raised (w.before name))
+    → meaning words ≡ Some request → IsAccepted r request → Answers words r s w outcome journal → IsCompleted r request outcome journal
