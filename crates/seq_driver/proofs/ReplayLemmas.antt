@@ -26,26 +26,22 @@ pub record IsNext (events : List Event) (index : ℕ) (event : Event) (rest : Li
   pub left : drop (index + 1) events ≡ rest
   pub within : index < length events
 
-module _ (w : Setup) (core : CoreData) (events : List Event) (index : ℕ) (under : IsUnderWay w core (take index events)) where
-  module _ (items : List Event) (d : Event) (same : items ≡ events) (within : index < length items) where
-    pub replay_goes_on : (new : CoreData) (action : Option Action) → IsCore w new → new.spent ≡ false
-        → ((s : State Node Msg) → Shows core s → IsMade w (get_or items index d) action core new s)
-        → IsUnderWay w new (take (index + 1) events)
-    replay_goes_on new action fits not_spent made =
-        let within' : index < length events = subst (λ xs. index < length xs) same within in
-        let one : IsMade w (get_or events index d) action core new (state_after w (take index events)) =
-        subst (λ xs. IsMade w (get_or xs index d) action core new (state_after w (take index events))) same (made (state_after w (take index events)) under.shows) in
-        subst (IsUnderWay w new) (sym (one_more events index d within'))
-        (goes_on w core new (take index events) (get_or events index d) under fits not_spent one.enabled one.shows)
-
-    pub first_refused : ((s : State Node Msg) → Shows core s → can_happen (rules w) (node_count w.config) s (get_or items index d) ≡ false)
-        → IsFirstRefused w events index
-    first_refused refused = record {
-      event = get_or events index d;
-      here = slice_get-get_or events index d (subst (λ xs. index < length xs) same within);
-      run = under.run;
-      refused = subst (λ xs. can_happen (rules w) (node_count w.config) (state_after w (take index events)) (get_or xs index d) ≡ false) same
-          (refused (state_after w (take index events)) under.shows);
+pub is_next : (events : List Event) (index : ℕ) (event : Event) (rest : List Event) → drop index events ≡ event ∷ rest
+    → IsNext events index event rest
+is_next [] index event rest left = absurd (nothing index left)
+  where
+    nothing : (n : ℕ) → drop n [] ≡ event ∷ rest → ⊥
+    nothing zero e = cc
+    nothing (suc n) e = cc
+is_next (x ∷ xs) zero event rest left = record { here = cc; done = cc; left = cc; within = omega arith }
+is_next (x ∷ xs) (suc index) event rest left =
+    let next : IsNext xs index event rest = is_next xs index event rest left in
+    let later : suc index + 1 ≡ suc (index + 1) = omega arith in
+    record {
+      here = next.here;
+      done = ap (λ n. take n (x ∷ xs)) later ∙ ap (λ events. x ∷ events) next.done;
+      left = ap (λ n. drop n (x ∷ xs)) later ∙ next.left;
+      within = omega (arith, next.within);
     }
 
 -- where nothing is left of a list, all of it is done
@@ -57,10 +53,10 @@ module _ (w : Setup) (core : CoreData) (events : List Event) (index : ℕ) (unde
     pub replay_goes_on : (new : CoreData) (action : Option Action) → IsCore w new → new.spent ≡ false
         → ((s : State Node Msg) → Shows core s → IsMade w event action core new s)
         → IsUnderWay w new (take (index + 1) events)
-    replay_goes_on new action fits able made =
+    replay_goes_on new action fits not_spent made =
         let one : IsMade w event action core new (state_after w (take index events)) = made (state_after w (take index events)) under.shows in
         subst (IsUnderWay w new) (sym (is_next events index event rest left).done)
-        (goes_on w core new (take index events) event under fits able one.enabled one.shows)
+        (goes_on w core new (take index events) event under fits not_spent one.enabled one.shows)
 
     pub first_refused : ((s : State Node Msg) → Shows core s → can_happen (rules w) (node_count w.config) s event ≡ false)
         → IsFirstRefused w events index

@@ -89,9 +89,7 @@ fn write_workload(alloc: Global, kind: Kind, seed: u64, name: &Text) -> Result<D
     let bytes = Bytes::from_vec(write_image(alloc, &image)?);
     Ok(Decision {
         outcome: Outcome::Written,
-        journal: Journal {
-            events: Vec::new(alloc),
-        },
+        journal: Journal::new(alloc),
         text: Bytes::from_vec(Vec::new(alloc)),
         files: vec![in alloc; FileToWrite { name: Text::new(alloc, name.as_str())?, bytes }]?,
     })

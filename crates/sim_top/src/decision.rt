@@ -44,9 +44,7 @@ fn refuse(alloc: Global, outcome: Outcome) -> Result<Decision, NoMemory>
     let text = Bytes::from_vec(fault_line(alloc, &outcome)?);
     Ok(Decision {
         outcome,
-        journal: Journal {
-            events: Vec::new(alloc),
-        },
+        journal: Journal::new(alloc),
         text,
         files: Vec::new(alloc),
     })
