@@ -10,7 +10,7 @@ use Rattle.node_machine.specs.End.{end_of}
 use Rattle.seq_driver.specs.Driven.{state_after, IsJournal, IsDrawn, IsStuck}
 use Rattle.sim_config.specs.declared.request.Request.{Request}
 use Rattle.sim_config.specs.Request.{replayed_name, workload_name}
-use Rattle.sim_config.specs.Words.{meaning}
+use Rattle.sim_config.specs.Request.{meaning}
 use Rattle.sim_top.specs.declared.outcomes.JournalFault.{JournalFault}
 use Rattle.sim_top.specs.declared.outcomes.Outcome.{Outcome}
 use Rattle.sim_top.specs.declared.outcomes.Outcome.TheVariants.{Usage, Stuck, BadConfig, BadImage, BadJournal, ReadFault}

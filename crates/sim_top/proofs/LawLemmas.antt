@@ -5,7 +5,7 @@ use Rattle.std.proofs.lemmas.Option.{none-some}
 use Rattle.sim_outside.specs.Fault.{RisesOnce, raised}
 use Rattle.sim_config.specs.declared.request.Request.{Request}
 use Rattle.sim_config.specs.Request.{workload_name}
-use Rattle.sim_config.specs.Words.{meaning}
+use Rattle.sim_config.specs.Request.{meaning}
 use Rattle.sim_top.specs.declared.outcomes.Outcome.{Outcome}
 use Rattle.sim_top.specs.declared.outcomes.Outcome.TheVariants.{Written, Stuck, Usage, BadConfig, BadImage, BadJournal, ReadFault}
 use Rattle.sim_top.specs.Stage.{Reads, reads}

@@ -15,7 +15,7 @@ use Rattle.seq_driver.proofs.DrawLemmas.{one_is_drawn}
 use Rattle.sim_config.specs.declared.request.Request.{Request}
 use Rattle.sim_config.specs.declared.request.Request.TheVariants as asked
 use Rattle.sim_config.specs.Request.{config_name, image_name, settings_unnamed, seed_of, replayed_name, journal_name, workload_of, workload_name}
-use Rattle.sim_config.specs.Words.{meaning}
+use Rattle.sim_config.specs.Request.{meaning}
 use Rattle.stats_report.specs.Report.{state_text}
 use Rattle.workload_gen.specs.Workload.{IsWorkload}
 use Rattle.workload_gen.proofs.Coded.{one_workload as workload_is_one}

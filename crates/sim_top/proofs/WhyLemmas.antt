@@ -13,7 +13,7 @@ use Rattle.seq_driver.specs.Driven.{state_after, IsJournal, IsDrawn, IsStuck}
 use Rattle.sim_config.specs.declared.request.Request.{Request}
 use Rattle.sim_config.specs.declared.request.Request.TheVariants as asked
 use Rattle.sim_config.specs.Request.{config_name, image_name, replayed_name, journal_name, workload_of, workload_name, written_names}
-use Rattle.sim_config.specs.Words.{meaning}
+use Rattle.sim_config.specs.Request.{meaning}
 use Rattle.sim_top.specs.declared.outcomes.FileToWrite.{FileToWrite}
 use Rattle.sim_top.specs.declared.outcomes.JournalFault.{JournalFault}
 use Rattle.sim_top.specs.declared.outcomes.Outcome.{Outcome}
