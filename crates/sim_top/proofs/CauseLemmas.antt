@@ -161,7 +161,7 @@ IsRun r request v =
 -- the file of a workload
 abbrev pub IsWritten : Request → Verdict → Type 0
 IsWritten request v =
-    (v.outcome ≡ Written) × (name : List ℕ) × (workload_name request ≡ Some name) × (bytes : List ℕ) × (v.files ≡ files_of (name ∷ []) bytes)
+    (v.outcome ≡ Written) × (v.journal ≡ []) × (name : List ℕ) × (workload_name request ≡ Some name) × (bytes : List ℕ) × (v.files ≡ files_of (name ∷ []) bytes)
 
 same_run : (w : Setup) (IsAsked : List Event → Type 0) (v : Verdict) → HasRun w IsAsked [] v → HasRun w (λ journal. journal ≡ v.journal) [] v
 same_run w IsAsked v has = record {
@@ -196,9 +196,13 @@ module _ (request : Request) (r : Reads) where
       let calm : between ≡ r.before = calm_machine request (reads r.holds r.before between) w has in
       let calm' : between' ≡ r.before = calm_replayed request (reads r.holds between between') events told ∙ calm in
       let here : replayed request (faultless r) (Ok events) =
-          subst (λ b. replayed request (reads r.holds r.before b) (Ok events)) calm' (subst (λ b. replayed request (reads r.holds b between') (Ok events)) calm told) in
-      (w, subst (λ b. machine request (reads r.holds r.before b) (Ok w)) calm has, inr (subst (λ es. replayed request (faultless r) (Ok es)) (sym run.asked) here),
-      same_run w (λ journal. journal ≡ events) v run, subst (λ name. WritesJournal (option_to_list name) v) (sym none) files)
+      subst (λ b. replayed request (reads r.holds r.before b) (Ok events)) calm' (subst (λ b. replayed request (reads r.holds b between') (Ok events)) calm told) in (
+        w,
+        subst (λ b. machine request (reads r.holds r.before b) (Ok w)) calm has,
+        inr (subst (λ es. replayed request (faultless r) (Ok es)) (sym run.asked) here),
+        same_run w (λ journal. journal ≡ events) v run,
+        subst (λ name. WritesJournal (option_to_list name) v) (sym none) files,
+      )
 
   replay_err : (o : Outcome) → replay request r (Err o) → Cause request r o
   unfolding replay
@@ -211,7 +215,7 @@ module _ (request : Request) (r : Reads) where
       let calm : between ≡ r.before = calm_machine request (reads r.holds r.before between) w has in
       let calm' : between' ≡ r.before = calm_replayed request (reads r.holds between between') events told ∙ calm in
       let here : replayed request (faultless r) (Ok events) =
-          subst (λ b. replayed request (reads r.holds r.before b) (Ok events)) calm' (subst (λ b. replayed request (reads r.holds b between') (Ok events)) calm told) in
+      subst (λ b. replayed request (reads r.holds r.before b) (Ok events)) calm' (subst (λ b. replayed request (reads r.holds b between') (Ok events)) calm told) in
       subst (Cause request r) (sym e) (w, subst (λ b. machine request (reads r.holds r.before b) (Ok w)) calm has, inr (events, here, no_run))
 
   -- the image of a workload is made
@@ -225,7 +229,7 @@ module _ (request : Request) (r : Reads) where
   gen_ok out named v (inl (o, ends, never)) = absurd (cc (never))
   gen_ok out named v (inr (program, between, has, (well, is))) =
       let same : v ≡ record (without_run Written) { files = files_of (option_to_list (workload_name request)) (file_of program) } = cc in
-      (ap (λ u. u.outcome) same, out, named, file_of program, ap (λ u. u.files) same ∙ ap (λ name. files_of (option_to_list name) (file_of program)) named)
+      (ap (λ u. u.outcome) same, ap (λ u. u.journal) same, out, named, file_of program, ap (λ u. u.files) same ∙ ap (λ name. files_of (option_to_list name) (file_of program)) named)
 
   pub gen_err : image_name request ≡ None → (o : Outcome) → gen request r (Err o) → ⊥
   unfolding gen

@@ -49,17 +49,20 @@ module _ (w : Setup) (ran : Ran) (is : IsRan w ran) where
   -- a run that was made is told as one
   pub has_run : (IsAsked : List Event → Type 0) → IsAsked ran.journal → IsChecked w.config → (names : List (List ℕ)) (d : Decision) → IsOfRun names ran d
       → HasRun w IsAsked [] (decided d) × WritesJournal names (decided d)
-  has_run IsAsked asked checked names d of = (record {
-    asked = subst IsAsked (sym of.journal) asked;
-    run = rw of.journal is.run;
-    end = ran.end;
-    ended = rw of.journal is.end;
-    outcome_is = of.outcome;
-    cause = rw of.journal (cause_of ran.end refl);
-    text_is = rw of.journal (of.text ∙ text-of_state shown_is_read w ran.core (state_after w ran.journal) ran.end is.fits is.shows ∙ sym (append-nil _));
-    coherent = rw of.journal (λ events line. always_coherent w (take events ran.journal) line checked
-        (run-take (rules w) (node_count w.config) (start_state w) ran.journal events is.run));
-  }, of.files)
+  has_run IsAsked asked checked names d of = (
+    record {
+      asked = subst IsAsked (sym of.journal) asked;
+      run = rw of.journal is.run;
+      end = ran.end;
+      ended = rw of.journal is.end;
+      outcome_is = of.outcome;
+      cause = rw of.journal (cause_of ran.end refl);
+      text_is = rw of.journal (of.text ∙ text-of_state shown_is_read w ran.core (state_after w ran.journal) ran.end is.fits is.shows ∙ sym (append-nil _));
+      coherent = rw of.journal (λ events line. always_coherent w (take events ran.journal) line checked
+          (run-take (rules w) (node_count w.config) (start_state w) ran.journal events is.run));
+    },
+    of.files,
+  )
 
 -- a run that is drawn
 
@@ -138,5 +141,5 @@ module _ (request : Request) (r : Reads) where
       let has : image request r (Ok made.program) = image_made request kind seed r made.program (ap image_name is) (ap workload_of is) well made.workload in
       let files = λ (name : Option (List ℕ)). files_of (option_to_list name) (file_of made.program) in
       let same : decided d ≡ record (without_run Written) { files = files (workload_name request) } =
-          made.is ∙ ap (λ name. record (without_run Written) { files = files name }) (sym (ap workload_name is)) in
+      made.is ∙ ap (λ name. record (without_run Written) { files = files name }) (sym (ap workload_name is)) in
       subst (λ q. command_of q request r (Ok (decided d))) (sym is) (inr (made.program, r.after, has, (refl, ap (λ v. Ok v) same)))

@@ -53,7 +53,7 @@ module _ (request : Request) (r : Reads) (well : IsToldWell r) where
   same_machine : (w u : Setup) → machine request (faultless r) (Ok w) → machine request (faultless r) (Ok u) → w ≡ u
   same_machine w u has has' = oks w u (one_machine well.held request r.before r.before r.before r.before (Ok w) (Ok u) (machine_is (Ok w) has) (machine_is (Ok u) has'))
 
-  accepted_once : (w : Setup) (o : Outcome) → (o ≡ ReadFault → ⊥) → machine request (faultless r) (Ok w) → machine request (faultless r) (Err o) → ⊥
+  pub accepted_once : (w : Setup) (o : Outcome) → (o ≡ ReadFault → ⊥) → machine request (faultless r) (Ok w) → machine request (faultless r) (Err o) → ⊥
   accepted_once w o not has refused =
       not_both w o not (one_machine well.held request r.before r.before r.before r.before (Ok w) (Err o) (machine_is (Ok w) has) (machine_is (Err o) refused))
 
@@ -99,7 +99,7 @@ module _ (request : Request) (r : Reads) (well : IsToldWell r) where
         let same : ends.w ≡ w = same_machine ends.w w ends.accepted has in
         let ended : end_of w (state_after w v.journal) ≡ Some end = subst (λ u. end_of u (state_after u v.journal) ≡ Some end) same ends.ended in
         ran.outcome_is ∙ ap outcome_of (same_Some ran.end end (sym ran.ended ∙ ended))
-    end_by (inr (is, name, named, bytes, files)) = absurd (not_written v.journal end ends name named ends.asked)
+    end_by (inr (is, empty, name, named, bytes, files)) = absurd (not_written v.journal end ends name named ends.asked)
 
     pub end_due : ComesTo (stages (Some request)) r v → v.outcome ≡ outcome_of end
     end_due (inl is) = end_by (request_ok request r v is)

@@ -13,3 +13,5 @@ pub mod WhyLemmas
 pub mod LostLemmas
 pub mod LawLemmas
 pub mod EndLemmas
+pub mod AnswerLemmas
+pub mod CompleteLemmas

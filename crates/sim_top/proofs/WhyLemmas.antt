@@ -27,18 +27,13 @@ use Rattle.sim_top.specs.Commands.{command_of, stages, Decides}
 use Rattle.sim_top.specs.Commands.Run.{run}
 use Rattle.sim_top.specs.Commands.Replay.{replay}
 use Rattle.sim_top.specs.Commands.Bench.{bench}
-use Rattle.sim_top.specs.Causes.{faultless, Means, DrawsRun, IsAsked, RefusesJournal, StopsStuck, EndsSo}
+use Rattle.sim_top.specs.Causes.{faultless, Means, DrawsRun, IsAsked, RefusesJournal, StopsStuck, EndsSo, Because}
 use Rattle.sim_top.proofs.CauseLemmas.{Cause, IsRun, IsWritten, request_ok, request_err, gen_err, no_workload_ends}
 
 -- what an outcome tells
 
 abbrev pub Why : Request → Reads → Verdict → Outcome → Type 0
-Why request r v (Done code) = EndsSo r request v.journal (Exit code)
-Why request r v (Trap thread cause pc) = EndsSo r request v.journal (TrapEnd thread cause pc)
-Why request r v Deadlock = EndsSo r request v.journal DeadlockEnd
-Why request r v Budget = EndsSo r request v.journal BudgetEnd
-Why request r v Written = (name : List ℕ) × (workload_name request ≡ Some name)
-Why request r v outcome = Cause request r outcome
+Why request r v outcome = Because r request v.journal outcome
 
 end_why : (request : Request) (r : Reads) (v : Verdict) (end : End) → EndsSo r request v.journal end → Why request r v (outcome_of end)
 end_why request r v (Exit code) is = is
@@ -63,7 +58,7 @@ cause_why request r v _ is = is
 ok_why : (request : Request) (r : Reads) (v : Verdict) → IsRun r request v ⊎ IsWritten request v → Why request r v v.outcome
 ok_why request r v (inl (w, has, is_asked, ran, files)) =
     subst (Why request r v) (sym ran.outcome_is) (end_why request r v ran.end (record { w = w; accepted = has; asked = is_asked; run = ran.run; ended = ran.ended }))
-ok_why request r v (inr (is, name, named, bytes, files)) = subst (Why request r v) (sym is) (name, named)
+ok_why request r v (inr (is, empty, name, named, bytes, files)) = subst (Why request r v) (sym is) (name, named)
 
 comes_why : (request : Request) (r : Reads) (v : Verdict) → ComesTo (stages (Some request)) r v → Why request r v v.outcome
 comes_why request r v (inl is) = ok_why request r v (request_ok request r v is)
@@ -166,7 +161,7 @@ ok_writes : (request : Request) (r : Reads) (v : Verdict) (count : ℕ) (file : 
     → Contains (written_names request) file.name
 ok_writes request r v count file here (inl (w, has, is_asked, ran, files)) =
     journal_is_written request file.name (one_name (journal_name request) _ count file (subst (λ fs. slice_get fs count ≡ Some file) files here))
-ok_writes request r v count file here (inr (is, name, named, bytes, files)) =
+ok_writes request r v count file here (inr (is, empty, name, named, bytes, files)) =
     workload_is_written request file.name (named ∙ one_name (Some name) bytes count file (subst (λ fs. slice_get fs count ≡ Some file) files here))
 
 writes_by : (words : List (List ℕ)) (meant : Option Request) (r : Reads) (v : Verdict) (count : ℕ) (file : FileToWrite) → slice_get v.files count ≡ Some file → meaning words ≡ meant

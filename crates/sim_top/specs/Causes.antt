@@ -1,7 +1,8 @@
 -- Where each outcome comes, of the words and the files that they name. This simulator's own.
-use Rattle.std.specs.Prelude.{◌≡◌, ◌⊎◌, ◌↔◌, ◌<◌, ℕ, List, Option, Some, None, Ok, Err}
+use Rattle.std.specs.Prelude.{◌≡◌, ◌⊎◌, ◌↔◌, ◌<◌, ℕ, List, [], Option, Some, None, Ok, Err}
 use Rattle.std.specs.List.{Contains}
 use Rattle.sim_base.specs.declared.ends.End.{End}
+use Rattle.sim_base.specs.declared.ends.End.TheVariants.{Exit, Trap as TrapEnd, Deadlock as DeadlockEnd, Budget as BudgetEnd}
 use Rattle.sim_base.specs.declared.settings.Config.{Config}
 use Rattle.sim_base.specs.declared.settings.Field.{Field}
 use Rattle.sim_outside.specs.Fault.{Rose, RisesOnce, raised}
@@ -15,11 +16,11 @@ use Rattle.sim_config.specs.Request.{config_name, image_name, replayed_name, wor
 use Rattle.sim_config.specs.Request.{meaning}
 use Rattle.sim_top.specs.declared.outcomes.JournalFault.{JournalFault}
 use Rattle.sim_top.specs.declared.outcomes.Outcome.{Outcome}
-use Rattle.sim_top.specs.declared.outcomes.Outcome.TheVariants.{Written, Stuck, Usage, BadConfig, BadImage, BadJournal, ReadFault, WriteFault, NoMemory}
+use Rattle.sim_top.specs.declared.outcomes.Outcome.TheVariants.{Done, Written, Trap, Deadlock, Budget, Stuck, Usage, BadConfig, BadImage, BadJournal, ReadFault, WriteFault, NoMemory}
 use Rattle.sim_top.specs.Stage.{Reads}
 use Rattle.sim_top.specs.Verdict.{Verdict}
 use Rattle.sim_top.specs.Asked.{settings, machine, replayed}
-use Rattle.sim_top.specs.Runs.{outcome_of, IsNoRun}
+use Rattle.sim_top.specs.Runs.{outcome_of, IsNoRun, StaysCoherent}
 use Rattle.sim_top.specs.Commands.{Decides}
 use Rattle.sim_top.specs.Answer.{Stream, Writes, Answers}
 
@@ -69,6 +70,36 @@ pub record EndsSo (r : Reads) (request : Request) (journal : List Event) (end : 
   pub asked : IsAsked r request w journal
   pub run : IsJournal w journal
   pub ended : end_of w (state_after w journal) ≡ Some end
+
+-- why a request has an outcome, the journal being this: its cause in the files that it names, but for those of the outcomes
+-- that no request comes to
+abbrev pub Because : Reads → Request → List Event → Outcome → Type 0
+Because r request journal (Done code) = EndsSo r request journal (Exit code)
+Because r request journal (Trap thread cause pc) = EndsSo r request journal (TrapEnd thread cause pc)
+Because r request journal Deadlock = EndsSo r request journal DeadlockEnd
+Because r request journal Budget = EndsSo r request journal BudgetEnd
+Because r request journal Written = (name : List ℕ) × (workload_name request ≡ Some name)
+Because r request journal ReadFault = (name : List ℕ) × IsRead r request name × RisesOnce r.before r.after name
+Because r request journal (BadConfig field) = settings request (faultless r) (Err (BadConfig field))
+Because r request journal (BadImage fault) = machine request (faultless r) (Err (BadImage fault))
+Because r request journal (BadJournal fault) = RefusesJournal r request fault
+Because r request journal Stuck = StopsStuck r request
+Because r request journal _ = ⊥
+
+-- why a call has an outcome: the words mean nothing; or the stream, or a name that the words give for writing, had one more
+-- fault; or the cause is in the files that the words name. Want of memory is free
+abbrev pub HasCause : List (List ℕ) → Reads → Stream → Writes → Outcome → List Event → Type 0
+HasCause words r s w Usage journal = meaning words ≡ None
+HasCause words r s w WriteFault journal =
+    Rose s.faults_before s.faults_now ⊎ Means words (λ request. (name : List ℕ) × Contains (written_names request) name × Rose (w.before name) (w.now name))
+HasCause words r s w NoMemory journal = Unit {0}
+HasCause words r s w outcome journal = Means words (λ request. Because r request journal outcome)
+
+-- a journal that is returned is a run of the machine of the accepted settings and image, and each line stays coherent along it;
+-- or it is empty
+abbrev pub IsCoherentRun : List (List ℕ) → Reads → List Event → Type 0
+IsCoherentRun words r journal =
+    (journal ≡ []) ⊎ Means words (λ request. (w : Setup) × machine request (faultless r) (Ok w) × IsJournal w journal × StaysCoherent w journal)
 
 -- of told files, without a fault, words come to one verdict
 abbrev pub OneVerdict : Type 0

@@ -10,7 +10,6 @@ use Rattle.sim_top.specs.Commands.Run.{run}
 use Rattle.sim_top.specs.Commands.Replay.{replay}
 use Rattle.sim_top.specs.Commands.Gen.{gen}
 use Rattle.sim_top.specs.Commands.Bench.{bench}
-
 pub mod Run
 pub mod Replay
 pub mod Gen

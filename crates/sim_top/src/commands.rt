@@ -91,7 +91,12 @@ fn write_workload(alloc: Global, kind: Kind, seed: u64, name: &Text) -> Result<D
         outcome: Outcome::Written,
         journal: Journal::new(alloc),
         text: Bytes::from_vec(Vec::new(alloc)),
-        files: vec![in alloc; FileToWrite { name: Text::new(alloc, name.as_str())?, bytes }]?,
+        files: vec![in alloc;
+            FileToWrite {
+                name: Text::new(alloc, name.as_str())?,
+                bytes
+            },
+        ]?,
     })
 }
 

@@ -1,6 +1,6 @@
 //! Laws: where each outcome comes, of the words and the files that they name. They speak of the verdicts of the clause
 //! `answer` of `execute_alone`.
-ghost use Rattle.sim_top.specs.Causes.{OneVerdict, UsageIsExact, ReadFaultHasCause, AbsentIsReadFault, BadConfigIsExact, BadImageIsExact, BadJournalIsExact, StuckIsExact, EndIsExact, WrittenIsExact, WriteFaultHasCause};
+ghost use Rattle.sim_top.specs.Causes.{OneVerdict, UsageIsExact, ReadFaultHasCause, AbsentIsReadFault, BadConfigIsExact, BadImageIsExact, BadJournalIsExact, StuckIsExact, EndIsExact, WrittenIsExact, WriteFaultHasCause, Complete};
 
 /// A law: where it is told what files hold and no reading fails, words come to one verdict: one outcome, with one journal, one
 /// text and one list of files to write.
@@ -65,4 +65,11 @@ pub fn write_fault_has_cause()
 /// that end; the journal being the one that the seed draws, or the one of the journal's file.
 pub fn end_is_exact()
     ensures { EndIsExact }
+{}
+
+/// A law: of told files, where nothing fails to be read, put or written, what is accepted is completed: a run by `Done`, `Trap`,
+/// `Deadlock` or `Budget`, as the state after the journal that is returned says, or `Stuck`; a workload's file by `Written`; or
+/// memory runs out.
+pub fn accepted_is_completed()
+    ensures { Complete }
 {}
