@@ -22,7 +22,6 @@ use Rattle.dir_slice.specs.Line.{State as DirState, Uncached, Shared, Modified, 
 use Rattle.dir_slice.specs.Inner.{StateIsWithin}
 use Rattle.node_set.specs.NodeSet.{has_node}
 use Rattle.tile_node.specs.OneLine.{dropped_copy}
-use Rattle.tile_node.specs.OneLineLaws.{IsFromHome}
 use Rattle.control_server.specs.Control.{Control, Act, Check}
 use Rattle.control_server.specs.Serve.{line_at, can_step, control_step}
 use Rattle.control_server.specs.Deliver.{acknowledges as acknowledged_by, control_delivered}
@@ -40,7 +39,7 @@ use Rattle.coherence_laws.proofs.Nodes.{equal, itself}
 use Rattle.coherence_laws.proofs.Take.{with_part, part_here, part_there, kept_at}
 use Rattle.coherence_laws.proofs.Acts.{stays_kept, asks_kept, drops_kept, fetch_kept, line_wanted, reads_kept}
 use Rattle.coherence_laws.proofs.View.{takes_other, takes_down}
-use Rattle.coherence_laws.proofs.Mail.{about_none, up_nothing, down_nothing, option_or_none}
+use Rattle.coherence_laws.proofs.Mail.{about_none, up_nothing, down_nothing, option_or_none, IsFromHome}
 use Rattle.coherence_laws.proofs.Holds.{IsUnended, IsNodeOf, Placed, KeptIn, Holds, taken_placed, acts_hold}
 use Rattle.coherence_laws.proofs.Servers.{IsElse, can_step_means, control_steps, IsForReaders, IsApart, control_apart, Reads, control_reads, Passes, control_passes, control_acknowledges, local_else}
 

@@ -25,10 +25,8 @@ use Rattle.dir_slice.proofs.Unfiled.{starts_as_the_image}
 use Rattle.tile_node.specs.Tile.{Tile as TileData, start_tile}
 use Rattle.tile_node.specs.Deliver.{tile_delivered}
 use Rattle.tile_node.specs.OneLine.{delivered_at}
-use Rattle.tile_node.specs.OneLineLaws.{IsFromHome}
 use Rattle.tile_node.proofs.OneLineHomes.{deliver_stays, start_empty}
 use Rattle.tile_node.proofs.OneLinePlain.{step_stays, deliver_leaves}
-use Rattle.tile_node.proofs.OneLineSent.{deliver_downs}
 use Rattle.tile_node.proofs.OneLineWords.{others_leave}
 use Rattle.control_server.specs.Control.{Control, Act as ControlAct}
 use Rattle.control_server.specs.Serve.{control_step, can_step as control_can_step}
@@ -48,7 +46,7 @@ use Rattle.coherence_laws.specs.Laws.{value_by, value_then, reached, line_value,
 use Rattle.coherence_laws.proofs.Phases.{away, quiet}
 use Rattle.coherence_laws.proofs.Nodes.{equal, itself}
 use Rattle.coherence_laws.proofs.Coherent.{Where, carried_at, in_memory, where_is, copy_data, reader_data, one_writer}
-use Rattle.coherence_laws.proofs.Mail.{up_or_not, option_or_none, up_nothing, down_nothing, about_other}
+use Rattle.coherence_laws.proofs.Mail.{up_or_not, option_or_none, up_nothing, down_nothing, about_other, IsFromHome, says_nothing_down}
 use Rattle.coherence_laws.proofs.Holds.{IsUnended, IsNodeOf, KeptIn, Holds}
 use Rattle.coherence_laws.proofs.Servers.{can_step_means, control_steps, control_apart, control_passes, control_acknowledges, control_drops}
 use Rattle.coherence_laws.proofs.Tiles.{tile_steps, tile_other, tile_word, tile_told, told_elsewhere, tile_hears}
@@ -149,7 +147,7 @@ tile_takes w s f k i x msg rest t sound some is of waits =
           elim (option_or_none (down_about k msg)) [
             | inl none ↦
                 tile_other w s k (f k) x t i msg rest is of.2 home waits (up_nothing k msg no_up) none
-                (ap (λ slice. home_at slice.homes k) (deliver_leaves w t i msg no_up).slice) (λ y. deliver_downs w t i msg k y no_up) (sound.lines k)
+                (ap (λ slice. home_at slice.homes k) (deliver_leaves w t i msg no_up).slice) (λ y. says_nothing_down k y (tile_delivered w t i msg).mail (deliver_leaves w t i msg no_up).mail) (sound.lines k)
             | inr word ↦
                 let at : i ≡ home_of w.config k = home k (λ none. none-some word.0 (sym none ∙ word.1)) in
                 let below : t.number < w.config.tiles = subst (λ z. z < w.config.tiles) (sym of.1) of.0 in

@@ -1,8 +1,9 @@
 -- What messages say of a line: those of a list to one node, the first of a list, and what a tile tells elsewhere.
 use Rattle.std.proofs.Common.{◌≡◌, ◌≢◌, ℕ, Bool, true, false, List, [], ◌∷◌, Some, None, ◌==◌, if◌then◌else◌, refl, sym, ap, ◌∙◌, inl, inr}
-use Rattle.std.proofs.lemmas.Bool.{cases_Bool, cond-false}
-use Rattle.std.proofs.lemmas.List.Elements.{All-nil, All-cons, All-head, All-tail, All-append, All-weaker}
-use Rattle.std.specs.Prelude.{Option, All, map, ◌⊎◌}
+use Rattle.std.proofs.lemmas.Bool.{cases_Bool, cond-true, cond-false}
+use Rattle.std.proofs.lemmas.List.Elements.{All-head, All-tail, All-weaker}
+use Rattle.std.specs.Prelude.{Option, All, ◌⊎◌}
+use Rattle.std.specs.List.{cons_option}
 use Rattle.std.specs.Option.{option_map_or}
 use Rattle.sim_base.specs.Numbering.{home_of}
 use Rattle.elf_image.specs.Layout.{Setup}
@@ -11,12 +12,12 @@ use Rattle.wire_msg.specs.declared.messages.Msg.TheVariants.{GetS, GetM, PutM, I
 use Rattle.wire_msg.specs.declared.lines.Want.TheVariants.{Read, Write}
 use Rattle.wire_msg.specs.declared.lines.Up.{Up}
 use Rattle.wire_msg.specs.declared.lines.Up.TheVariants.{Asks, GivesUp, Acknowledges, HandsOver}
-use Rattle.wire_msg.specs.Message.{line_of, up_of, down_of, is_about, up_about, down_about, ups}
-use Rattle.tile_node.specs.Tile.{Act, Told, told_message, up_message, sent_by}
-use Rattle.tile_node.specs.OneLineLaws.{IsToldTo, IsFromHome}
+use Rattle.wire_msg.specs.Message.{line_of, up_of, down_of, is_about, up_about, down_about, ups, downs}
+use Rattle.tile_node.specs.OneLine.{told_about}
+use Rattle.tile_node.specs.OneLineLaws.{IsToldTo, GoesHome, GoesRightly}
 use Rattle.event_journal.specs.State.{messages_to}
-use Rattle.event_journal.proofs.Views.{alike, SaysNone, silent_to}
-use Rattle.coherence_laws.proofs.Nodes.{equal}
+use Rattle.event_journal.proofs.Views.{first_to, alike, SaysNone, silent_to}
+use Rattle.coherence_laws.proofs.Nodes.{equal, itself}
 
 -- a message about another line, or about none
 pub about_none : (k : ℕ) (msg : Msg) → line_of msg ≡ None → (up_about k msg ≡ None) × (down_about k msg ≡ None)
@@ -56,38 +57,53 @@ about_is line (Some n) e = ap Some (equal n line e)
 pub down_line : (line : ℕ) (msg : Msg) → down_about line msg ≢ None → line_of msg ≡ Some line
 down_line line msg some = about_is line (line_of msg) (said_of (is_about line msg) (down_of msg) some)
 
--- what a tile tells goes to the lines' homes, so nothing to others
+-- a home's word about a line comes from the line's home
+abbrev pub IsFromHome : Setup → ℕ → Msg → Type 0
+IsFromHome w from msg = (line : ℕ) → down_about line msg ≢ None → from ≡ home_of w.config line
 
-up_is : (k line : ℕ) (says : Up) → up_about k (up_message line says) ≡ (if line == k then Some says else None)
-up_is k line (Asks Read) = refl
-up_is k line (Asks Write) = refl
-up_is k line (GivesUp content) = refl
-up_is k line Acknowledges = refl
-up_is k line (HandsOver content) = refl
+-- what a tile says to the lines' homes goes there: nothing of it to others
 
-abbrev pub GoesHome : Setup → Told → Type 0
-GoesHome w told = told.to ≡ home_of w.config told.line
-
-told_none : (w : Setup) (k y : ℕ) (told : Told) → y ≢ home_of w.config k → GoesHome w told → SaysNone (up_about k) y (told_message told)
-told_none w k y told ne at = λ to. up_is k told.line told.says ∙ elim (cases_Bool (told.line == k)) [
-  | inl t ↦ absurd (ne (sym to ∙ at ∙ ap (home_of w.config) (equal told.line k t)))
-  | inr t ↦ cond-false (told.line == k) _ _ t
+goes_silently : (w : Setup) (k y : ℕ) (m : ℕ × Msg) → y ≢ home_of w.config k → GoesHome w m → SaysNone (up_about k) y m
+goes_silently w k y m ne goes = λ to. elim (option_or_none (up_about k m.1)) [
+  | inl none ↦ none
+  | inr some ↦ absurd (ne (sym to ∙ goes k some.0 some.1))
 ]
 
-all_told_none : (w : Setup) (k y : ℕ) (all : List Told) → y ≢ home_of w.config k → All (GoesHome w) all → All (SaysNone (up_about k) y) (map told_message all)
-all_told_none w k y [] ne at = All-nil (SaysNone (up_about k) y)
-all_told_none w k y (told ∷ all) ne at =
-    All-cons (SaysNone (up_about k) y) (told_message told) (map told_message all) (told_none w k y told ne (All-head (GoesHome w) told all at))
-    (all_told_none w k y all ne (All-tail (GoesHome w) told all at))
+pub goes_elsewhere : (w : Setup) (mail : List (ℕ × Msg)) (k y : ℕ) → y ≢ home_of w.config k → All (GoesHome w) mail → ups k (messages_to y mail) ≡ []
+goes_elsewhere w mail k y ne goes = silent_to (up_about k) y mail (All-weaker (GoesHome w) (SaysNone (up_about k) y) (λ m g. goes_silently w k y m ne g) mail goes)
 
-pub acts_elsewhere : (w : Setup) (act : Act) (k y : ℕ) → y ≢ home_of w.config k → All (GoesHome w) act.told → All (λ m. up_about k m.1 ≡ None) act.mail → ups k (messages_to y (sent_by act)) ≡ []
-acts_elsewhere w act k y ne told mail =
-    silent_to (up_about k) y (sent_by act)
-    (All-append (SaysNone (up_about k) y) (map told_message act.told) act.mail (all_told_none w k y act.told ne told)
-    (All-weaker (λ (m : ℕ × Msg). up_about k m.1 ≡ None) (SaysNone (up_about k) y) (λ m none to. none) act.mail mail))
+-- and all of it to them
+pub goes_home : (w : Setup) (mail : List (ℕ × Msg)) (k : ℕ) → All (GoesHome w) mail → ups k (messages_to (home_of w.config k) mail) ≡ told_about k mail
+goes_home w [] k goes = refl
+goes_home w (m ∷ mail) k goes =
+    let home : ℕ = home_of w.config k in
+    let rest : ups k (messages_to home mail) ≡ told_about k mail = goes_home w mail k (All-tail (GoesHome w) m mail goes) in
+    first_to (up_about k) home m mail ∙ elim (cases_Bool (m.0 == home)) [
+      | inl t ↦ cond-true (m.0 == home) _ _ t ∙ ap (cons_option (up_about k m.1)) rest
+      | inr t ↦
+          let none : up_about k m.1 ≡ None = elim (option_or_none (up_about k m.1)) [
+            | inl none ↦ none
+            | inr some ↦
+                let there : (m.0 == home) ≡ true = ap (λ n. n == home) (All-head (GoesHome w) m mail goes k some.0 some.1) ∙ itself home in
+                absurd (not_both (m.0 == home) there t)
+          ] in
+          cond-false (m.0 == home) _ _ t ∙ rest ∙ sym (ap (λ o. cons_option o (told_about k mail)) none)
+    ]
+  where
+    not_both : (b : Bool) → b ≡ true → b ≡ false → ⊥
+    not_both true t f = cc
+    not_both false t f = cc
 
-pub told_home : (w : Setup) (from : ℕ) (msg : Msg) (to line : ℕ) (says : Up) → IsFromHome w from msg → IsToldTo w from msg to line says → to ≡ home_of w.config line
-told_home w from msg to line (Asks write) home e = e
-told_home w from msg to line (GivesUp content) home e = e
-told_home w from msg to line Acknowledges home e = e.0 ∙ home line e.1
-told_home w from msg to line (HandsOver content) home e = e.0 ∙ home line e.1
+answers_home : (w : Setup) (from : ℕ) (msg : Msg) (to line : ℕ) (says : Up) → IsFromHome w from msg → IsToldTo w from msg to line says → to ≡ home_of w.config line
+answers_home w from msg to line (Asks want) home e = e
+answers_home w from msg to line (GivesUp content) home e = e
+answers_home w from msg to line Acknowledges home e = e.0 ∙ home line e.1
+answers_home w from msg to line (HandsOver content) home e = e.0 ∙ home line e.1
+
+pub rightly_home : (w : Setup) (from : ℕ) (msg : Msg) (m : ℕ × Msg) → IsFromHome w from msg → GoesRightly w from msg m → GoesHome w m
+rightly_home w from msg m home goes line says e = answers_home w from msg m.0 line says home (goes line says e)
+
+-- nothing is said from a home
+pub says_nothing_down : (k y : ℕ) (mail : List (ℕ × Msg)) → All (λ m. down_of m.1 ≡ None) mail → downs k (messages_to y mail) ≡ []
+says_nothing_down k y mail all =
+    silent_to (down_about k) y mail (All-weaker (λ (m : ℕ × Msg). down_of m.1 ≡ None) (SaysNone (down_about k) y) (λ m none to. down_nothing k m.1 none) mail all)

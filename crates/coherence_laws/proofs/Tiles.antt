@@ -22,7 +22,7 @@ use Rattle.dir_slice.proofs.Orderly.{keeps_orderly}
 use Rattle.dir_slice.specs.Directory.{Step, home_at, reaction, home_after, mail_of}
 use Rattle.dir_slice.proofs.Lines.{one_line_changes}
 use Rattle.dir_slice.proofs.Nodes.{told_within}
-use Rattle.tile_node.specs.Tile.{Tile as TileData, Act, sent_by, quiet}
+use Rattle.tile_node.specs.Tile.{Tile as TileData, Act, quiet}
 use Rattle.tile_node.specs.Step.{can_step, is_writing, waits_for_limit, looks_around, tile_step}
 use Rattle.tile_node.specs.Deliver.{hold_suits, home_does, tile_delivered}
 use Rattle.tile_core.specs.declared.plans.Plan.{Plan}
@@ -33,15 +33,15 @@ use Rattle.tile_core.specs.Plan.{plan_of}
 use Rattle.tile_cache.specs.declared.ways.Way.{Way}
 use Rattle.tile_cache.specs.Cache.{way_of}
 use Rattle.rv_exec.specs.Access.{Asked}
-use Rattle.tile_node.specs.OneLine.{wants, Happening, nothing, copy_after, told_after, wants_after, heard, needs, needs_at, follows_at, writes_at, works_at, step_at, delivered_at}
-use Rattle.tile_node.specs.OneLineLaws.{Shows, MayHappen, IsFromHome, UpsAreTold}
+use Rattle.tile_node.specs.OneLine.{wants, told_about, Happening, nothing, copy_after, told_after, wants_after, heard, needs, needs_at, follows_at, writes_at, works_at, step_at, delivered_at}
+use Rattle.tile_node.specs.OneLineLaws.{Shows, MayHappen, GoesHome, GoesRightly}
 use Rattle.tile_node.proofs.OneLineStep.{step_shows}
 use Rattle.tile_node.proofs.OneLineDeliver.{deliver_shows}
 use Rattle.tile_node.proofs.OneLineHappens.{step_may}
 use Rattle.tile_node.proofs.OneLineWords.{downs_happen, others_leave}
 use Rattle.tile_node.proofs.OneLinePlain.{step_told, step_leaves, deliver_leaves}
-use Rattle.tile_node.proofs.OneLineHomes.{deliver_told, deliver_silent, homes_hear, homes_say}
-use Rattle.tile_node.proofs.OneLineSent.{step_ups, step_downs, deliver_ups, deliver_downs}
+use Rattle.tile_node.proofs.OneLineHomes.{deliver_told, homes_hear}
+use Rattle.tile_node.proofs.OneLineSpeaks.{homes_say}
 use Rattle.event_journal.specs.State.{State, messages_to, changed, with_queue}
 use Rattle.node_machine.specs.declared.nodes.Node.{Node}
 use Rattle.node_machine.specs.declared.nodes.Node.TheVariants.{Tile}
@@ -56,7 +56,7 @@ use Rattle.coherence_laws.proofs.Serve.{all_sent}
 use Rattle.coherence_laws.proofs.Take.{with_part, part_here, part_there, kept_at, home_takes, said_to}
 use Rattle.coherence_laws.proofs.Acts.{moved, IsOfStep, step_kept, word_kept, other_kept, waiting_leaves}
 use Rattle.coherence_laws.proofs.View.{home_sends, home_changes, takes_other, takes_down, takes_up, ups_stay, downs_stay}
-use Rattle.coherence_laws.proofs.Mail.{about_none, about_other, up_nothing, down_nothing, GoesHome, acts_elsewhere, told_home}
+use Rattle.coherence_laws.proofs.Mail.{about_other, up_nothing, down_nothing, IsFromHome, goes_elsewhere, goes_home, rightly_home, says_nothing_down}
 use Rattle.coherence_laws.proofs.Holds.{Placed, KeptIn, Holds, taken_placed, acts_hold}
 
 -- a step is at a line nothing, an access or a request
@@ -90,16 +90,16 @@ step_of_step w t k =
 
 -- what a tile's act makes of its part of a line
 shown_part : (w : Setup) (s : State Node Msg) (k x : ℕ) (t : TileData) (act : Act) (h : Happening) (p : Part) → s.node x ≡ Tile t → p.copy ≡ copy_at (s.node x) k → p.want ≡ want_at (s.node x) k
-    → Shows t k act h → UpsAreTold w act k
-    → part (copy_of act.tile.cache k) (wants act.tile k) (p.up ++ ups k (messages_to (home_of w.config k) (sent_by act))) p.down ≡ moved h p p.down
+    → Shows t k act h → ups k (messages_to (home_of w.config k) act.mail) ≡ told_about k act.mail
+    → part (copy_of act.tile.cache k) (wants act.tile k) (p.up ++ ups k (messages_to (home_of w.config k) act.mail)) p.down ≡ moved h p p.down
 shown_part w s k x t act h p is copy want shows told =
     let copy_is : copy_of t.cache k ≡ p.copy = ap (λ m. copy_at m k) (sym is) ∙ sym copy in
     let want_is : wants t k ≡ p.want = ap (λ m. want_at m k) (sym is) ∙ sym want in
     let a : copy_of act.tile.cache k ≡ copy_after h p.copy = shows.copy ∙ ap (copy_after h) copy_is in
     let b : wants act.tile k ≡ wants_after h p.want = shows.wants ∙ ap (wants_after h) want_is in
-    let c : ups k (messages_to (home_of w.config k) (sent_by act)) ≡ told_after h p.copy = told ∙ shows.told ∙ ap (told_after h) copy_is in
-    ap (λ z. part z (wants act.tile k) (p.up ++ ups k (messages_to (home_of w.config k) (sent_by act))) p.down) a
-    ∙ ap (λ z. part (copy_after h p.copy) z (p.up ++ ups k (messages_to (home_of w.config k) (sent_by act))) p.down) b
+    let c : ups k (messages_to (home_of w.config k) act.mail) ≡ told_after h p.copy = told ∙ shows.told ∙ ap (told_after h) copy_is in
+    ap (λ z. part z (wants act.tile k) (p.up ++ ups k (messages_to (home_of w.config k) act.mail)) p.down) a
+    ∙ ap (λ z. part (copy_after h p.copy) z (p.up ++ ups k (messages_to (home_of w.config k) act.mail)) p.down) b
     ∙ ap (λ z. part (copy_after h p.copy) (wants_after h p.want) (p.up ++ z) p.down) c
 
 pub tile_steps : (w : Setup) (s : State Node Msg) (k : ℕ) (v : LineData) (x : ℕ) (t : TileData) → s.node x ≡ Tile t → IsCache t.cache → can_step t ≡ true → Holds w s k v
@@ -115,25 +115,21 @@ tile_steps w s k v x t is cache can held =
     in
     let kept : KeptIn home (value_after t.core.status h v) (with_part x (moved h (n x) (n x).down) n) = step_kept home.state home.memory home.waiting v x n t.core.status h held.kept (step_of_step w t k) may in
     acts_hold w s k (value_after t.core.status h v) x (change_of (of_tile act)) held.placed
-    (ap (λ slice. home_at slice.homes k) leaves.slice ∙ ap (λ m. home_in m k) (sym is)) (λ y. step_downs w t k y)
-    (λ y ne. acts_elsewhere w act k y ne (step_told w t)
-    (All-weaker (λ (m : ℕ × Msg). line_of m.1 ≡ None) (λ (m : ℕ × Msg). up_about k m.1 ≡ None) (λ m none. (about_none k m.1 none).0) act.mail leaves.mail))
-    (kept_at _ kept (λ y. ap (λ p. with_part x p n y) (shown_part w s k x t act h (n x) is refl refl (step_shows w t k can cache) (step_ups w t k))))
+    (ap (λ slice. home_at slice.homes k) leaves.slice ∙ ap (λ m. home_in m k) (sym is)) (λ y. says_nothing_down k y act.mail leaves.mail)
+    (λ y ne. goes_elsewhere w act.mail k y ne (step_told w t))
+    (kept_at _ kept (λ y. ap (λ p. with_part x p n y) (shown_part w s k x t act h (n x) is refl refl (step_shows w t k can cache) (goes_home w act.mail k (step_told w t)))))
 
 -- what a tile makes of a message that says nothing of the line, to its home or from it
 
-tells_home : (w : Setup) (t : TileData) (i : ℕ) (msg : Msg) → IsFromHome w i msg → All (GoesHome w) (tile_delivered w t i msg).told
-tells_home w t i msg from_home =
-    All-weaker _ (GoesHome w) (λ told e. told_home w i msg told.to told.line told.says from_home e) (tile_delivered w t i msg).told (deliver_told w t i msg)
+tells_home : (w : Setup) (t : TileData) (i : ℕ) (msg : Msg) → IsFromHome w i msg → All (GoesHome w) (tile_delivered w t i msg).mail
+tells_home w t i msg from_home = All-weaker (GoesRightly w i msg) (GoesHome w) (λ m goes. rightly_home w i msg m from_home goes) (tile_delivered w t i msg).mail (deliver_told w t i msg)
 
-says_none_elsewhere : (w : Setup) (t : TileData) (i : ℕ) (msg : Msg) (k y : ℕ) → IsFromHome w i msg → y ≢ home_of w.config k → ups k (messages_to y (sent_by (tile_delivered w t i msg))) ≡ []
-says_none_elsewhere w t i msg k y from_home ne =
-    acts_elsewhere w (tile_delivered w t i msg) k y ne (tells_home w t i msg from_home)
-    (All-weaker (λ (m : ℕ × Msg). up_of m.1 ≡ None) (λ (m : ℕ × Msg). up_about k m.1 ≡ None) (λ m none. up_nothing k m.1 none) (tile_delivered w t i msg).mail (deliver_silent w t i msg))
+says_none_elsewhere : (w : Setup) (t : TileData) (i : ℕ) (msg : Msg) (k y : ℕ) → IsFromHome w i msg → y ≢ home_of w.config k → ups k (messages_to y (tile_delivered w t i msg).mail) ≡ []
+says_none_elsewhere w t i msg k y from_home ne = goes_elsewhere w (tile_delivered w t i msg).mail k y ne (tells_home w t i msg from_home)
 
 pub tile_other : (w : Setup) (s : State Node Msg) (k : ℕ) (v : LineData) (x : ℕ) (t : TileData) (i : ℕ) (msg : Msg) (rest : List Msg) → s.node x ≡ Tile t → IsCache t.cache → IsFromHome w i msg
     → s.queue i x ≡ msg ∷ rest → up_about k msg ≡ None → down_about k msg ≡ None
-    → home_at (tile_delivered w t i msg).tile.slice.homes k ≡ home_at t.slice.homes k → ((y : ℕ) → downs k (messages_to y (sent_by (tile_delivered w t i msg))) ≡ []) → Holds w s k v
+    → home_at (tile_delivered w t i msg).tile.slice.homes k ≡ home_at t.slice.homes k → ((y : ℕ) → downs k (messages_to y (tile_delivered w t i msg).mail) ≡ []) → Holds w s k v
     → Holds w (changed (with_queue s i x rest) x (change_of (of_tile (tile_delivered w t i msg)))) k (value_after t.core.status (delivered_at w t i msg k) v)
 tile_other w s k v x t i msg rest is cache from_home waits no_up no_down same_home silent held =
     let act : Act = tile_delivered w t i msg in
@@ -147,7 +143,7 @@ tile_other w s k v x t i msg rest is cache from_home waits no_up no_down same_ho
     let kept : KeptIn home (value_after t.core.status h v) (with_part x (moved h (n' x) (n' x).down) n') = other_kept home.state home.memory home.waiting v x n' t.core.status h before (others_leave w t i msg k no_down) in
     acts_hold w s' k (value_after t.core.status h v) x (change_of (of_tile act)) (taken_placed w s k i x msg rest waits held.placed)
     (same_home ∙ ap (λ m. home_in m k) (sym is)) silent (λ y ne. says_none_elsewhere w t i msg k y from_home ne)
-    (kept_at _ kept (λ y. ap (λ p. with_part x p n' y) (shown_part w s' k x t act h (n' x) is refl refl (deliver_shows w t i msg k cache) (deliver_ups w t i msg k from_home))))
+    (kept_at _ kept (λ y. ap (λ p. with_part x p n' y) (shown_part w s' k x t act h (n' x) is refl refl (deliver_shows w t i msg k cache) (goes_home w act.mail k (tells_home w t i msg from_home)))))
 
 -- a home's word about the line
 
@@ -186,13 +182,13 @@ tile_word w s k v x t i msg rest says is cache from_home waits may no_up word at
     let part_is : moved h (n' x) (n' x).down ≡ moved h (n x) ds = ap (λ (p : Part). moved h p p.down) here in
     let others : (y : ℕ) → (x == y) ≡ false → n' y ≡ n y = λ y ne. popped y ∙ part_there x y (with_down (n x) ds) n ne in
     acts_hold w s' k (value_after t.core.status h v) x (change_of (of_tile act)) (taken_placed w s k i x msg rest waits held.placed)
-    (ap (λ slice. home_at slice.homes k) leaves.slice ∙ ap (λ m. home_in m k) (sym is)) (λ y. deliver_downs w t i msg k y no_up)
+    (ap (λ slice. home_at slice.homes k) leaves.slice ∙ ap (λ m. home_in m k) (sym is)) (λ y. says_nothing_down k y act.mail leaves.mail)
     (λ y ne. says_none_elsewhere w t i msg k y from_home ne)
     (kept_at _ kept
     (λ y. elim (cases_Bool (x == y)) [
       | inl e ↦
           part_here x y _ n' e
-          ∙ shown_part w s' k x t act h (n' x) is refl refl (deliver_shows w t i msg k cache) (deliver_ups w t i msg k from_home) ∙ part_is ∙ sym (part_here x y (moved h (n x) ds) n e)
+          ∙ shown_part w s' k x t act h (n' x) is refl refl (deliver_shows w t i msg k cache) (goes_home w act.mail k (tells_home w t i msg from_home)) ∙ part_is ∙ sym (part_here x y (moved h (n x) ds) n e)
       | inr e ↦ part_there x y _ n' e ∙ others y e ∙ sym (part_there x y (moved h (n x) ds) n e)
     ]))
 
@@ -223,7 +219,7 @@ tile_told w s k v x t i msg rest says is number waits may line up word no_down a
     in
     let new : State Node Msg = changed s' x (change_of (of_tile act)) in
     let says_down = homes_say w t i k says in
-    let no_ups : (y : ℕ) → ups k (messages_to y (sent_by act)) ≡ [] = λ y.
+    let no_ups : (y : ℕ) → ups k (messages_to y act.mail) ≡ [] = λ y.
     silent_to (up_about k) y act.mail (All-weaker (GoesDown k) (SaysNone (up_about k) y) (λ m e to. up_nothing k m.1 e.0) act.mail says_down)
     in
     let home_now : home_line w new k ≡ home_after h step =
@@ -249,7 +245,7 @@ tile_told w s k v x t i msg rest says is number waits may line up word no_down a
 -- and what it does for another line as its home leaves this one alone
 
 home_elsewhere : (w : Setup) (t : TileData) (i j k : ℕ) (says : Up) → (j == k) ≡ false
-    → (home_at (home_does w t i j says).tile.slice.homes k ≡ home_at t.slice.homes k) × ((y : ℕ) → downs k (messages_to y (sent_by (home_does w t i j says))) ≡ [])
+    → (home_at (home_does w t i j says).tile.slice.homes k ≡ home_at t.slice.homes k) × ((y : ℕ) → downs k (messages_to y (home_does w t i j says).mail) ≡ [])
 home_elsewhere w t i j k says ne =
     let step : Option Step = reaction w.config t.number j (home_at t.slice.homes j) i says in
     let act : Act = home_does w t i j says in
@@ -259,14 +255,14 @@ home_elsewhere w t i j k says ne =
     )
 
 pub told_elsewhere : (w : Setup) (t : TileData) (i : ℕ) (msg : Msg) (j k : ℕ) (says : Up) → line_of msg ≡ Some j → up_of msg ≡ Some says → (j == k) ≡ false
-    → (home_at (tile_delivered w t i msg).tile.slice.homes k ≡ home_at t.slice.homes k) × ((y : ℕ) → downs k (messages_to y (sent_by (tile_delivered w t i msg))) ≡ [])
+    → (home_at (tile_delivered w t i msg).tile.slice.homes k ≡ home_at t.slice.homes k) × ((y : ℕ) → downs k (messages_to y (tile_delivered w t i msg).mail) ≡ [])
 told_elsewhere w t i msg j k says line up ne =
     elim (cases_Bool (may_send w.config i t.number msg)) [
       | inl may ↦
           let is : tile_delivered w t i msg ≡ home_does w t i j says = homes_hear w t i msg j says may line up in
           let other = home_elsewhere w t i j k says ne in
-          (ap (λ (a : Act). home_at a.tile.slice.homes k) is ∙ other.0, λ y. ap (λ a. downs k (messages_to y (sent_by a))) is ∙ other.1 y)
+          (ap (λ (a : Act). home_at a.tile.slice.homes k) is ∙ other.0, λ y. ap (λ a. downs k (messages_to y a.mail)) is ∙ other.1 y)
       | inr may_not ↦
           let is : tile_delivered w t i msg ≡ quiet t = cond-false (may_send w.config i t.number msg) _ _ may_not in
-          (ap (λ (a : Act). home_at a.tile.slice.homes k) is, λ y. ap (λ a. downs k (messages_to y (sent_by a))) is)
+          (ap (λ (a : Act). home_at a.tile.slice.homes k) is, λ y. ap (λ a. downs k (messages_to y a.mail)) is)
     ]

@@ -10,7 +10,6 @@ use Rattle.elf_image.specs.Layout.{Setup}
 use Rattle.wire_msg.specs.declared.messages.Msg.{Msg}
 use Rattle.tile_node.specs.Tile.{Tile as TileData, Act as TileAct}
 use Rattle.tile_node.specs.Step.{tile_step}
-use Rattle.tile_node.specs.Deliver.{tile_delivered}
 use Rattle.event_journal.specs.declared.events.Event.{Event}
 use Rattle.event_journal.specs.declared.events.Event.TheVariants.{Step, Deliver}
 use Rattle.event_journal.specs.State.{State, messages_to, changed, with_queue}
@@ -22,7 +21,7 @@ use Rattle.node_machine.specs.Reading.{ended_of_node}
 use Rattle.node_machine.specs.End.{end_of, end_by, budget_end, is_used_up}
 use Rattle.node_machine.specs.Trapping.{IsTrappingStep, IsTrapping, HasTrapped, TrapHasCause}
 use Rattle.node_machine.proofs.TrappingWords.{TrapFact, Implies, Tells, Mails, Ends, Keeps, tells_weaker, keeps_weaker, all_if, no_mail}
-use Rattle.node_machine.proofs.TrappingTiles.{Traps, sent_tells, step_mails, delivered_silent}
+use Rattle.node_machine.proofs.TrappingTiles.{Traps, step_mails, delivered_silent}
 use Rattle.node_machine.proofs.TrappingServers.{control_steps, control_takes, local_mail}
 
 -- a state in which every trap that a message tells, a request of the control server asks to serve or its end says is known
@@ -79,7 +78,7 @@ with_queue_knows K s i k messages knows all = record {
 -- a delivery adds nothing
 
 takes : (K : TrapFact) (w : Setup) (n : Node) (from : ℕ) (msg : Msg) → NodeKeeps K n → Tells K msg → ActKnows K (node_delivered w n from msg)
-takes K w (Tile tile) from msg keeps told = record { node = tt; sent = sent_tells K (tile_delivered w tile from msg) (delivered_silent K w tile from msg) }
+takes K w (Tile tile) from msg keeps told = record { node = tt; sent = delivered_silent K w tile from msg }
 takes K w (Control control) from msg keeps told = let act = control_takes K w control from msg keeps told in record { node = act.control; sent = act.mail }
 takes K w (Local local) from msg keeps told = record { node = tt; sent = local_mail K w.config local.host local.idle from msg }
 
@@ -113,8 +112,7 @@ steps K w s node (Tile tile) here keeps =
     let T : TrapFact = Traps w tile act.action in
     record {
       node = tt;
-      sent = sent_tells L act
-          (All-weaker (Mails T) (Mails L) (λ m told. tells_weaker T L (λ thread cause pc e. inr (trap_is_step w s node tile here thread cause pc e)) m.1 told) act.mail (step_mails w tile));
+      sent = (All-weaker (Mails T) (Mails L) (λ m told. tells_weaker T L (λ thread cause pc e. inr (trap_is_step w s node tile here thread cause pc e)) m.1 told) act.mail (step_mails w tile));
     }
 steps K w s node (Control control) here keeps = let act = control_steps (Then K w s (Step node)) w control keeps in record { node = act.control; sent = act.mail }
 steps K w s node (Local local) here keeps = record { node = tt; sent = no_mail (Then K w s (Step node)) }

@@ -2,8 +2,8 @@
 -- no delivery tells of any.
 use Rattle.std.proofs.Common.{◌≡◌, ℕ, Bool, true, false, [], ◌∷◌, Some, None, refl}
 use Rattle.std.proofs.lemmas.Option.{none-some}
-use Rattle.std.proofs.lemmas.List.Elements.{All-append, All-map, All-weaker}
-use Rattle.std.specs.Prelude.{Option, All, ◌+◌, ◌==◌, ◌&&◌, map, if◌then◌else◌}
+use Rattle.std.proofs.lemmas.List.Elements.{All-weaker}
+use Rattle.std.specs.Prelude.{Option, All, ◌+◌, ◌==◌, ◌&&◌, if◌then◌else◌}
 use Rattle.sim_base.specs.declared.actions.Action.{Action}
 use Rattle.sim_base.specs.declared.actions.Action.TheVariants.{Exec}
 use Rattle.sim_base.specs.declared.ends.Cause.{Cause}
@@ -11,7 +11,7 @@ use Rattle.sim_base.specs.declared.lines.LineData.{LineData}
 use Rattle.rv_exec.specs.Access.{Asked}
 use Rattle.elf_image.specs.Layout.{Setup}
 use Rattle.wire_msg.specs.declared.messages.Msg.{Msg}
-use Rattle.wire_msg.specs.declared.messages.Msg.TheVariants.{GetS, GetM, PutM, InvAck, FetchAck, DataS, DataM, Fetch, FetchInv, Return, Start, Trapped, Limit, Probe, ProbeReply}
+use Rattle.wire_msg.specs.declared.messages.Msg.TheVariants.{GetS, GetM, PutM, InvAck, FetchAck, DataS, DataM, Inv, Fetch, FetchInv, Return, Start, Trapped, Limit, Probe, ProbeReply}
 use Rattle.wire_msg.specs.declared.lines.Want.{Want}
 use Rattle.wire_msg.specs.declared.lines.Want.TheVariants.{Read, Write as ToWrite}
 use Rattle.wire_msg.specs.declared.lines.Up.{Up}
@@ -27,13 +27,13 @@ use Rattle.tile_core.specs.Plan.{plan_of}
 use Rattle.tile_cache.specs.declared.ways.Hold.{Hold}
 use Rattle.tile_cache.specs.declared.ways.Hold.TheVariants.{S, M}
 use Rattle.tile_cache.specs.declared.ways.Way.{Way}
-use Rattle.tile_cache.specs.Cache.{way_of}
+use Rattle.tile_cache.specs.Cache.{way_of, content_of, victim_of}
 use Rattle.clock_policy.specs.Probe.{may_go}
-use Rattle.tile_node.specs.Tile.{Tile, Act, Told, up_message, told_message, sent_by, suits, is_only_read}
+use Rattle.tile_node.specs.Tile.{Tile, Act, up_message, access_want, suits, is_only_read}
 use Rattle.tile_node.specs.Step.{is_writing, waits_for_limit, looks_around, reads_byte_by, writes, accesses_by, follows, tile_step}
-use Rattle.tile_node.specs.Deliver.{home_does, hold_suits, data_taken, fetch_by, return_taken, start_taken, limit_taken, reply_taken, taken, tile_delivered}
-use Rattle.tile_node.proofs.OneLineHomes.{homes_say}
-use Rattle.node_machine.proofs.TrappingWords.{TrapFact, Tells, Mails, all_of, no_mail, one_mail}
+use Rattle.tile_node.specs.Deliver.{home_does, put_home, victim_mail, hold_suits, data_taken, fetch_by, return_taken, start_taken, limit_taken, reply_taken, taken, tile_delivered}
+use Rattle.tile_node.proofs.OneLineSpeaks.{homes_say}
+use Rattle.node_machine.proofs.TrappingWords.{TrapFact, Tells, Mails, no_mail, one_mail}
 
 -- what is told of lines tells of no trap
 
@@ -44,10 +44,8 @@ up_tells K line (GivesUp content) = tt
 up_tells K line Acknowledges = tt
 up_tells K line (HandsOver content) = tt
 
-pub sent_tells : (K : TrapFact) (act : Act) → All (Mails K) act.mail → All (Mails K) (sent_by act)
-sent_tells K act mail =
-    All-append (Mails K) (map told_message act.told) act.mail
-    (All-map (Mails K) told_message act.told (all_of (λ (told : Told). Mails K (told_message told)) (λ told. up_tells K told.line told.says) act.told)) mail
+told_mail : (K : TrapFact) (node line : ℕ) (says : Up) → All (Mails K) ((node, up_message line says) ∷ [])
+told_mail K node line says = one_mail K node (up_message line says) (up_tells K line says)
 
 -- a step
 
@@ -72,7 +70,7 @@ mails_if w t true x y one other = one
 mails_if w t false x y one other = other
 
 byte_mails : (w : Setup) (t : Tile) (addr : ℕ) (found : Option Way) → MailsTraps w t (reads_byte_by w t addr found)
-byte_mails w t addr None = nothing w t _
+byte_mails w t addr None = told_mail _ _ (line_at addr) (Asks Read)
 byte_mails w t addr (Some way) = nothing w t _
 
 writes_mails : (w : Setup) (t : Tile) → MailsTraps w t (writes w t)
@@ -80,8 +78,8 @@ writes_mails w t =
     mails_if w t (is_gathered t.core.write) _ _ (other w t None _ _ tt) (byte_mails w t (next_byte t.core.write) (way_of t.cache (line_at (next_byte t.core.write))))
 
 access_mails : (w : Setup) (t : Tile) (access : Asked) (found : Option Way) → MailsTraps w t (accesses_by w t access found)
-access_mails w t access None = nothing w t _
-access_mails w t access (Some way) = mails_if w t (suits access.op way.hold) _ _ (nothing w t _) (nothing w t _)
+access_mails w t access None = told_mail _ _ (line_at access.addr) (Asks (access_want access.op))
+access_mails w t access (Some way) = mails_if w t (suits access.op way.hold) _ _ (nothing w t _) (told_mail _ _ (line_at access.addr) (Asks (access_want access.op)))
 
 follows_mails : (w : Setup) (t : Tile) (plan : Plan) → plan_of w t.core ≡ plan → MailsTraps w t (follows w t plan)
 follows_mails w t (Local rd value pc cost answered) e = nothing w t _
@@ -112,13 +110,22 @@ home_silent : (K : TrapFact) (w : Setup) (t : Tile) (from line : ℕ) (says : Up
 home_silent K w t from line says =
     All-weaker (λ (m : ℕ × Msg). (up_of m.1 ≡ None) × (line_of m.1 ≡ Some line)) (Mails K) (λ m e. about_line K line m.1 e.1) (home_does w t from line says).mail (homes_say w t from line says)
 
+put_silent : (K : TrapFact) (w : Setup) (line : ℕ) (content : Option LineData) → All (Mails K) (put_home w line content)
+put_silent K w line None = no_mail K
+put_silent K w line (Some content) = told_mail K _ line (GivesUp content)
+
+victim_silent : (K : TrapFact) (w : Setup) (t : Tile) (victim : Option (ℕ × Hold)) → All (Mails K) (victim_mail w t victim)
+victim_silent K w t None = no_mail K
+victim_silent K w t (Some (line, M)) = put_silent K w line (content_of t.cache line)
+victim_silent K w t (Some (line, S)) = no_mail K
+
 data_silent : (K : TrapFact) (w : Setup) (t : Tile) (line : ℕ) (hold : Hold) (content : LineData) (delay : ℕ) (status : Status) → All (Mails K) (data_taken w t line hold content delay status).mail
-data_silent K w t line hold content delay (Miss access) = silent_if K (line_missed t.core.write access == line && hold_suits access hold) _ _ (no_mail K) (no_mail K)
+data_silent K w t line hold content delay (Miss access) = silent_if K (line_missed t.core.write access == line && hold_suits access hold) _ _ (victim_silent K w t (victim_of t.cache line)) (no_mail K)
 data_silent K w t line hold content delay _ = no_mail K
 
 fetch_silent : (K : TrapFact) (t : Tile) (from line : ℕ) (want : Want) (found : Option Way) → All (Mails K) (fetch_by t from line want found).mail
 fetch_silent K t from line want None = no_mail K
-fetch_silent K t from line want (Some way) = silent_if K (is_only_read way.hold) _ _ (no_mail K) (no_mail K)
+fetch_silent K t from line want (Some way) = silent_if K (is_only_read way.hold) _ _ (no_mail K) (told_mail K from line (HandsOver way.content))
 
 return_silent : (K : TrapFact) (w : Setup) (t : Tile) (value time limit : ℕ) (status : Status) → All (Mails K) (return_taken w t value time limit status).mail
 return_silent K w t value time limit Called = no_mail K
@@ -145,6 +152,7 @@ taken_silent K w t from (InvAck line) = home_silent K w t from line Acknowledges
 taken_silent K w t from (FetchAck line content) = home_silent K w t from line (HandsOver content)
 taken_silent K w t from (DataS line content delay) = data_silent K w t line S content delay t.core.status
 taken_silent K w t from (DataM line content delay) = data_silent K w t line M content delay t.core.status
+taken_silent K w t from (Inv line) = told_mail K from line Acknowledges
 taken_silent K w t from (Fetch line) = fetch_silent K t from line Read (way_of t.cache line)
 taken_silent K w t from (FetchInv line) = fetch_silent K t from line ToWrite (way_of t.cache line)
 taken_silent K w t from (Return value time limit) = return_silent K w t value time limit t.core.status

@@ -6,7 +6,7 @@ use Rattle.sim_base.specs.declared.memory.NoMemory.{NoMemory}
 use Rattle.sim_base.specs.Numbering.{control_node, local_node, server_host}
 use Rattle.elf_image.specs.Layout.{Setup}
 use Rattle.wire_msg.specs.declared.messages.Msg.{Msg}
-use Rattle.tile_node.specs.Tile.{Act as TileAct, sent_by, start_tile}
+use Rattle.tile_node.specs.Tile.{Act as TileAct, start_tile}
 use Rattle.tile_node.specs.Step.{can_step as tile_can_step, tile_step}
 use Rattle.tile_node.specs.Deliver.{tile_delivered}
 use Rattle.tile_node.specs.Answers.{IsOf}
@@ -27,7 +27,7 @@ pub record Act : Type 0 where
   pub action : Option Action
 
 abbrev pub of_tile : TileAct → Act
-of_tile act = record { node = Tile act.tile; sent = sent_by act; action = act.action }
+of_tile act = record { node = Tile act.tile; sent = act.mail; action = act.action }
 
 abbrev pub of_control : ControlAct → Act
 of_control act = record { node = Control act.control; sent = act.mail; action = act.action }

@@ -9,6 +9,6 @@ pub mod OneLineHappens
 pub mod OneLineHomes
 pub mod OneLineParts
 pub mod OneLinePlain
+pub mod OneLineSpeaks
 pub mod OneLineStep
 pub mod OneLineWords
-pub mod OneLineSent

@@ -1,5 +1,5 @@
 -- What the code of a rule has made is what the rule says: for one tile, its view and the parts that changed.
-use Rattle.std.proofs.Common.{◌≡◌, ℕ, ◌+◌, ◌++◌, List, [], ◌∷◌, map, max, true, refl, sym, ap, ◌∙◌, eq-eqb}
+use Rattle.std.proofs.Common.{◌≡◌, ℕ, ◌+◌, ◌++◌, List, [], ◌∷◌, max, true, refl, sym, ap, ◌∙◌, eq-eqb}
 use Rattle.std.specs.Prelude.{Bool, ◌==◌, ◌&&◌, slice_index, Option, Some, None, Ok}
 use Rattle.std.proofs.lemmas.List.{append-nil}
 use Rattle.sim_base.specs.declared.actions.Action.{Action}
@@ -25,9 +25,9 @@ use Rattle.tile_cache.specs.declared.ways.Hold.{Hold}
 use Rattle.tile_cache.specs.declared.ways.Hold.TheVariants.{S, M}
 use Rattle.tile_cache.specs.Cache.{Sets, victim_of, placed}
 use Rattle.dir_slice.specs.Directory.{Slice, Mail, reaction, home_at, Answers as HomeAnswers}
-use Rattle.tile_node.specs.Tile.{Tile, up_message, told_message, with_status, one_more, access_class, place_in_line}
+use Rattle.tile_node.specs.Tile.{Tile, up_message, with_status, one_more, access_class, place_in_line}
 use Rattle.tile_node.specs.Step.{misses}
-use Rattle.tile_node.specs.Deliver.{home_does, hold_suits, data_taken, return_taken, victim_tile, victim_told, waiting_done, waiting_action}
+use Rattle.tile_node.specs.Deliver.{home_does, hold_suits, data_taken, return_taken, victim_tile, victim_mail, waiting_done, waiting_action}
 use Rattle.tile_node.specs.Inner.{Makes, MakesAlone, with_done}
 
 -- the home's role
@@ -77,19 +77,19 @@ thread_stays t (Some (line, S)) = refl
 
 placed_made : (w : Setup) (t room : Tile) (line : ℕ) (hold : Hold) (content : LineData) (delay : ℕ) (access : Option Asked) (s : Status) (cache : Sets) (new : Tile) (before after : Mail) (action : Action)
     → s ≡ Miss access → (line_missed t.core.write access == line && hold_suits access hold) ≡ true
-    → room ≡ victim_tile t (victim_of t.cache line) → after ≡ before ++ map told_message (victim_told w t (victim_of t.cache line))
+    → room ≡ victim_tile t (victim_of t.cache line) → after ≡ before ++ victim_mail w t (victim_of t.cache line)
     → cache ≡ placed room.cache line hold content → new ≡ waiting_done w room cache access content delay → action ≡ waiting_action room.core.thread access
     → Makes (Ok (Some action)) t new before after (data_taken w t line hold content delay s)
 placed_made w t room line hold content delay access s cache new before after action waits missed made sent there done acts =
     rw (waits, missed, done, there, acts, made, sent) (
       refl,
-      ap (λ xs. before ++ xs) (sym (append-nil _)),
+      refl,
       ap (λ n. Some (waiting_action n access)) (thread_stays t (victim_of t.cache line)),
     )
 
 pub miss_ended : (w : Setup) (v t room : Tile) → v ≡ t → (line : ℕ) (hold : Hold) (content : LineData) (delay : ℕ) (access : Option Asked) (cache : Sets) (new : Tile) (before after : Mail) (action : Action)
     → v.core.status ≡ Miss access → (line_missed v.core.write access == line && hold_suits access hold) ≡ true
-    → room ≡ victim_tile t (victim_of t.cache line) → after ≡ before ++ map told_message (victim_told w t (victim_of t.cache line))
+    → room ≡ victim_tile t (victim_of t.cache line) → after ≡ before ++ victim_mail w t (victim_of t.cache line)
     → cache ≡ placed room.cache line hold content → new ≡ waiting_done w room cache access content delay → action ≡ waiting_action room.core.thread access
     → Makes (Ok (Some action)) t new before after (data_taken w t line hold content delay t.core.status)
 miss_ended w v t room is line hold content delay access cache new before after action waits missed made sent there done acts =

@@ -8,10 +8,10 @@ use Rattle.sim_base.specs.Numbering.{home_of}
 use Rattle.rv_exec.specs.Access.{Asked}
 use Rattle.elf_image.specs.Layout.{Setup}
 use Rattle.wire_msg.specs.declared.messages.Msg.{Msg}
-use Rattle.wire_msg.specs.declared.messages.Msg.TheVariants.{DataS, DataM, Inv, Fetch, FetchInv, Return, Start, Limit, ProbeReply}
+use Rattle.wire_msg.specs.declared.messages.Msg.TheVariants.{GetS, GetM, PutM, InvAck, FetchAck, DataS, DataM, Inv, Fetch, FetchInv, Return, Start, Limit, ProbeReply}
 use Rattle.wire_msg.specs.declared.lines.Want.{Want}
 use Rattle.wire_msg.specs.declared.lines.Want.TheVariants.{Read, Write}
-use Rattle.wire_msg.specs.declared.lines.Up.TheVariants.{GivesUp, Acknowledges, HandsOver}
+use Rattle.wire_msg.specs.declared.lines.Up.TheVariants.{Asks, GivesUp, Acknowledges, HandsOver}
 use Rattle.wire_msg.specs.Message.{may_send}
 use Rattle.tile_core.specs.declared.cores.Status.{Status}
 use Rattle.tile_core.specs.declared.cores.Status.TheVariants.{Idle, Miss, Called, AtBarrier, Probing}
@@ -24,9 +24,10 @@ use Rattle.tile_cache.specs.Copy.{Copy, absent, shared, modified, held_as, copy_
 use Rattle.tile_cache.proofs.CopyLemmas.{front_shows, drop_shows, downgrade_shows, victim_is_another, victim_is_held}
 use Rattle.clock_policy.specs.Probe.{may_go}
 use Rattle.tile_node.specs.Tile.{Tile, Act, quiet, is_only_read}
-use Rattle.tile_node.specs.Deliver.{put_home, victim_tile, victim_told, waiting_done, hold_suits, miss_ends_for, data_taken, inv_tile, told_to, fetched_tile, fetch_by, return_taken, start_taken, limit_taken, reply_taken, onward, taken}
+use Rattle.tile_node.specs.Deliver.{put_home, victim_tile, victim_mail, waiting_done, hold_suits, miss_ends_for, data_taken, inv_tile, told_to, fetched_tile, fetch_by, return_taken, start_taken, limit_taken, reply_taken, onward, taken}
 use Rattle.tile_node.specs.OneLine.{wants, wants_by, told_about, data_after, dropped_copy, fetched_copy, put_of, answer_of, nothing, came, evicted, invalidated, fetched, at_line, leaves_at, data_at, taken_at}
 use Rattle.tile_node.specs.OneLineLaws.{Shows, DeliverShows}
+use Rattle.tile_node.proofs.OneLineSpeaks.{homes_silent}
 use Rattle.tile_node.proofs.OneLineParts.{at_itself, elsewhere, test_turned, shows_if, shows_both, shows_else, leaves_lines, told_here, told_there, used, used_here, used_there}
 use Rattle.tile_node.proofs.OneLineCaches.{room_of, room_is, room_there, IsCache-room, IsCache-placed}
 
@@ -93,12 +94,12 @@ module _ (w : Setup) (t : Tile) (access : Option Asked) (line : ℕ) (hold : Hol
   told_put victim k ne None = refl
   told_put victim k ne (Some old) = told_there (home_of w.config victim) victim k (GivesUp old) ne
 
-  told_other : (victim : ℕ) (by : Hold) (k : ℕ) → (k == victim) ≡ false → told_about k (victim_told w t (Some (victim, by))) ≡ []
+  told_other : (victim : ℕ) (by : Hold) (k : ℕ) → (k == victim) ≡ false → told_about k (victim_mail w t (Some (victim, by))) ≡ []
   told_other victim S k ne = refl
   told_other victim M k ne = told_put victim k ne (content_of t.cache victim)
 
   told_victim : (victim : ℕ) (by : Hold) (old : LineData) → copy_of t.cache victim ≡ held_as by old
-      → told_about victim (victim_told w t (Some (victim, by))) ≡ put_of (copy_of t.cache victim)
+      → told_about victim (victim_mail w t (Some (victim, by))) ≡ put_of (copy_of t.cache victim)
   told_victim victim S old e = sym (ap put_of e)
   told_victim victim M old e =
       ap (λ o. told_about victim (put_home w victim o)) (modified_content (way_of t.cache victim) old e)
@@ -121,7 +122,7 @@ module _ (w : Setup) (t : Tile) (access : Option Asked) (line : ℕ) (hold : Hol
       (told_other victim by k nv) (waits (Some (victim, by)) k ne))
 
   -- at the line itself
-  told_line : (victim : Option (ℕ × Hold)) → victim_of t.cache line ≡ victim → told_about line (victim_told w t victim) ≡ []
+  told_line : (victim : Option (ℕ × Hold)) → victim_of t.cache line ≡ victim → told_about line (victim_mail w t victim) ≡ []
   told_line None e = refl
   told_line (Some (victim, by)) e = told_other victim by line (test_turned victim line (victim_is_another t.cache line victim by e))
 
@@ -163,7 +164,7 @@ dropped_wants t line k S = refl
 dropped_wants t line k M = refl
 
 abbrev inv_by : Tile → ℕ → ℕ → Option Way → Act
-inv_by t from line found = record (quiet (inv_tile t line found)) { told = told_to from line Acknowledges }
+inv_by t from line found = record (quiet (inv_tile t line found)) { mail = told_to from line Acknowledges }
 
 inv_shows : (t : Tile) (from line : ℕ) (found : Option Way) (k : ℕ) → IsCache t.cache → way_of t.cache line ≡ found
     → Shows t k (inv_by t from line found) (at_line line k invalidated)
@@ -203,7 +204,7 @@ stays_shows t line k want copy is same silent =
     (λ ne. leaves_lines t k _ refl refl refl)
 
 fetch_held : (t : Tile) (from line : ℕ) (want : Want) (hold : Hold) (content : LineData) (k : ℕ) → IsCache t.cache → copy_of t.cache line ≡ held_as hold content
-    → Shows t k (if is_only_read hold then quiet t else record (quiet (fetched_tile t line want)) { told = told_to from line (HandsOver content) }) (at_line line k (fetched want))
+    → Shows t k (if is_only_read hold then quiet t else record (quiet (fetched_tile t line want)) { mail = told_to from line (HandsOver content) }) (at_line line k (fetched want))
 fetch_held t from line want S content k h e = stays_shows t line k want (shared content) e refl refl
 fetch_held t from line want M content k h e =
     shows_else t line k _ (fetched want) nothing
@@ -257,6 +258,11 @@ taken_shows w t from (Return value time limit) k h = return_shows w t value time
 taken_shows w t from (Start thread entry arg time limit) k h = start_shows w t thread entry arg time limit t.core.status k refl
 taken_shows w t from (Limit limit) k h = limit_shows t limit t.core.status k refl
 taken_shows w t from (ProbeReply running clock) k h = reply_shows w t running clock t.core.status k refl
+taken_shows w t from (GetS line) k h = leaves_lines t k _ refl (homes_silent w t from line (Asks Read) k) refl
+taken_shows w t from (GetM line) k h = leaves_lines t k _ refl (homes_silent w t from line (Asks Write) k) refl
+taken_shows w t from (PutM line content) k h = leaves_lines t k _ refl (homes_silent w t from line (GivesUp content) k) refl
+taken_shows w t from (InvAck line) k h = leaves_lines t k _ refl (homes_silent w t from line Acknowledges k) refl
+taken_shows w t from (FetchAck line content) k h = leaves_lines t k _ refl (homes_silent w t from line (HandsOver content) k) refl
 taken_shows w t from _ k h = leaves_lines t k _ refl refl refl
 
 pub deliver_shows : DeliverShows

@@ -1,20 +1,17 @@
 -- A tile as a home: what it is told is its slice's alone. And tiles at the start.
-use Rattle.std.proofs.Common.{◌≡◌, ℕ, Bool, true, false, List, [], ◌∷◌, ◌++◌, Some, None, refl, sym, ap, ◌∙◌}
+use Rattle.std.proofs.Common.{◌≡◌, ℕ, Bool, true, false, Some, None, refl, sym, ap, ◌∙◌}
 use Rattle.std.proofs.lemmas.Bool.{cond-true}
 use Rattle.std.proofs.lemmas.Option.{none-some, same_Some}
-use Rattle.std.proofs.lemmas.List.Elements.{All-nil, All-cons, All-append, All-weaker}
-use Rattle.std.specs.Prelude.{Option, All, map, if◌then◌else◌, ◌==◌}
-use Rattle.std.specs.Option.{option_map}
-use Rattle.sim_base.specs.declared.settings.Config.{Config}
+use Rattle.std.proofs.lemmas.List.Elements.{All-nil, All-weaker}
+use Rattle.std.specs.Prelude.{All, if◌then◌else◌, ◌==◌}
 use Rattle.elf_image.specs.Layout.{Setup}
 use Rattle.wire_msg.specs.declared.messages.Msg.{Msg}
 use Rattle.wire_msg.specs.declared.messages.Msg.TheVariants.{GetS, GetM, PutM, InvAck, FetchAck}
 use Rattle.wire_msg.specs.declared.lines.Want.TheVariants.{Read, Write}
 use Rattle.wire_msg.specs.declared.lines.Up.{Up}
 use Rattle.wire_msg.specs.declared.lines.Up.TheVariants.{Asks, GivesUp, Acknowledges, HandsOver}
-use Rattle.wire_msg.specs.Message.{may_send, line_of, up_of}
-use Rattle.dir_slice.specs.Line.{Home, Request, Row, Sent, drop_copy, fetch, give, is_busy, request_row, answer_row, memory_after}
-use Rattle.dir_slice.specs.Directory.{Slice, fixed_delay, Step, message, in_row, taken_up, settled, settle, after_row, reaction, home_at, mail_of}
+use Rattle.wire_msg.specs.Message.{may_send, up_of}
+use Rattle.dir_slice.specs.Directory.{Slice}
 use Rattle.tile_cache.specs.Cache.{IsCache}
 use Rattle.tile_cache.proofs.ChangeLemmas.{empty_is_cache}
 use Rattle.tile_cache.proofs.CopyLemmas.{empty_shows}
@@ -23,8 +20,10 @@ use Rattle.tile_core.specs.Core.{idle_core, begun}
 use Rattle.tile_node.specs.Tile.{Tile, Act, quiet}
 use Rattle.tile_node.specs.Deliver.{home_does, taken, tile_delivered}
 use Rattle.tile_node.specs.OneLine.{wants_by}
-use Rattle.tile_node.specs.OneLineLaws.{DeliverStaysTile, ToldToReceivers, HomesHear, HomesSpeakOfLines, TilesStartEmpty}
-use Rattle.tile_node.proofs.OneLinePlain.{ToldRightly, IsElse, deliver_plain}
+use Rattle.tile_node.specs.OneLineLaws.{GoesRightly, DeliverStaysTile, ToldToReceivers, HomesHear, TilesStartEmpty}
+use Rattle.tile_node.proofs.OneLineParts.{up_none}
+use Rattle.tile_node.proofs.OneLineSpeaks.{GoesDown, homes_say}
+use Rattle.tile_node.proofs.OneLinePlain.{deliver_plain}
 
 -- a home hears a message that a node may send it
 heard : (w : Setup) (t : Tile) (from line : ℕ) (msg : Msg) (one says : Up) (n : ℕ) → may_send w.config from t.number msg ≡ true → Some n ≡ Some line → Some one ≡ Some says
@@ -40,92 +39,27 @@ homes_hear w t from (InvAck n) line says may at is = heard w t from line (InvAck
 homes_hear w t from (FetchAck n content) line says may at is = heard w t from line (FetchAck n content) (HandsOver content) says n may at is
 homes_hear w t from _ line says may at is = absurd (none-some says is)
 
--- what a home sends goes down, and is about the line
-abbrev GoesDown : ℕ → ℕ × Msg → Type 0
-GoesDown line m = (up_of m.1 ≡ None) × (line_of m.1 ≡ Some line)
-
-message_down : (line : ℕ) (h : Home) (sent : Sent) → GoesDown line (message line h sent)
-message_down line h (drop_copy to) = (refl, refl)
-message_down line h (fetch Read to) = (refl, refl)
-message_down line h (fetch Write to) = (refl, refl)
-message_down line h (give Read to) = (refl, refl)
-message_down line h (give Write to) = (refl, refl)
-
-messages_down : (line : ℕ) (h : Home) (sent : List Sent) → All (GoesDown line) (map (message line h) sent)
-messages_down line h [] = All-nil (GoesDown line)
-messages_down line h (s ∷ sent) = All-cons (GoesDown line) (message line h s) (map (message line h) sent) (message_down line h s) (messages_down line h sent)
-
-either_down : (line : ℕ) (b : Bool) (x y : Step) → All (GoesDown line) x.mail → All (GoesDown line) y.mail → All (GoesDown line) (if b then x else y).mail
-either_down line true x y one other = one
-either_down line false x y one other = other
-
-in_row_down : (line : ℕ) (h : Home) (row : Row) → All (GoesDown line) (in_row line h row).mail
-in_row_down line h row = messages_down line h row.sent
-
-taken_down : (c : Config) (tile line : ℕ) (h : Home) (q : Request) → All (GoesDown line) (taken_up c tile line h q).mail
-taken_down c tile line h q =
-    let row : Row = request_row h.state q.want q.from in in_row_down line (record h { delay = fixed_delay c tile q.from row.state }) row
-
-settled_down : (c : Config) (tile line : ℕ) (h : Home) (rest : List Request) → All (GoesDown line) (settled c tile line h rest).mail
-settled_down c tile line h [] = All-nil (GoesDown line)
-settled_down c tile line h (q ∷ rest) =
-    either_down line (is_busy h.state) _ _ (All-nil (GoesDown line))
-    (All-append (GoesDown line) (taken_up c tile line h q).mail (settled c tile line (taken_up c tile line h q).home rest).mail (taken_down c tile line h q)
-    (settled_down c tile line (taken_up c tile line h q).home rest))
-
-settle_down : (c : Config) (tile line : ℕ) (s : Step) → All (GoesDown line) s.mail → All (GoesDown line) (settle c tile line s).mail
-settle_down c tile line s down = All-append (GoesDown line) s.mail (settled c tile line s.home s.home.waiting).mail down (settled_down c tile line s.home s.home.waiting)
-
-answered_down : (c : Config) (tile line : ℕ) (h : Home) (says : Up) (row : Option Row) → All (GoesDown line) (mail_of (option_map (after_row c tile line h says) row))
-answered_down c tile line h says None = All-nil (GoesDown line)
-answered_down c tile line h says (Some row) =
-    settle_down c tile line (in_row line (record h { memory = memory_after says h.memory }) row) (messages_down line (record h { memory = memory_after says h.memory }) row.sent)
-
-reaction_down : (c : Config) (tile line : ℕ) (h : Home) (from : ℕ) (says : Up) → All (GoesDown line) (mail_of (reaction c tile line h from says))
-reaction_down c tile line h from (Asks want) = either_down line (is_busy h.state) _ _ (All-nil (GoesDown line)) (taken_down c tile line h (record { from = from; want = want }))
-reaction_down c tile line h from Acknowledges = answered_down c tile line h Acknowledges (answer_row h.state from Acknowledges)
-reaction_down c tile line h from (HandsOver content) = answered_down c tile line h (HandsOver content) (answer_row h.state from (HandsOver content))
-reaction_down c tile line h from (GivesUp content) = answered_down c tile line h (GivesUp content) (answer_row h.state from (GivesUp content))
-
-pub homes_say : HomesSpeakOfLines
-homes_say w t from line says = reaction_down w.config t.number line (home_at t.slice.homes line) from says
-
--- a delivery leaves its cache a cache, tells what it may and says nothing else to homes: a home's cache stays as it is
-abbrev SaysNothingUp : ℕ × Msg → Type 0
-SaysNothingUp m = up_of m.1 ≡ None
-
-else_up : (msg : Msg) → line_of msg ≡ None → up_of msg ≡ None
-else_up (GetS line) e = cc
-else_up (GetM line) e = cc
-else_up (PutM line content) e = cc
-else_up (InvAck line) e = cc
-else_up (FetchAck line content) e = cc
-else_up _ e = refl
-
+-- a delivery leaves its cache a cache, and tells what it may: a home's cache stays as it is
 record Kept (w : Setup) (t : Tile) (from : ℕ) (msg : Msg) (act : Act) : Type 0 where
   cache : IsCache t.cache → IsCache act.tile.cache
   number : act.tile.number ≡ t.number
-  told : All (ToldRightly w from msg) act.told
-  mail : All SaysNothingUp act.mail
+  told : All (GoesRightly w from msg) act.mail
+
+-- what says nothing to homes goes anywhere
+silent_rightly : (w : Setup) (from : ℕ) (msg : Msg) (m : ℕ × Msg) → up_of m.1 ≡ None → GoesRightly w from msg m
+silent_rightly w from msg m e line says up = absurd (none-some says (sym (up_none line m.1 e) ∙ up))
 
 heard_kept : (w : Setup) (t : Tile) (from : ℕ) (msg : Msg) (line : ℕ) (says : Up) (b : Bool) → Kept w t from msg (if b then home_does w t from line says else quiet t)
 heard_kept w t from msg line says true = record {
   cache = λ h. h;
   number = refl;
-  told = All-nil (ToldRightly w from msg);
-  mail = All-weaker (GoesDown line) SaysNothingUp (λ m e. e.0) (home_does w t from line says).mail (homes_say w t from line says);
+  told = All-weaker (GoesDown line) (GoesRightly w from msg) (λ m e. silent_rightly w from msg m e.0) (home_does w t from line says).mail (homes_say w t from line says);
 }
-heard_kept w t from msg line says false = record { cache = λ h. h; number = refl; told = All-nil (ToldRightly w from msg); mail = All-nil SaysNothingUp }
+heard_kept w t from msg line says false = record { cache = λ h. h; number = refl; told = All-nil (GoesRightly w from msg) }
 
 plain_kept : (w : Setup) (t : Tile) (from : ℕ) (msg : Msg) → up_of msg ≡ None → Kept w t from msg (tile_delivered w t from msg)
 plain_kept w t from msg e =
-    let plain = deliver_plain w t from msg e in
-    record {
-      cache = plain.cache;
-      number = ap (λ (p : ℕ × Slice). p.0) plain.place;
-      told = plain.told;
-      mail = All-weaker IsElse SaysNothingUp (λ m no_line. else_up m.1 no_line) (tile_delivered w t from msg).mail plain.mail;
-    }
+    let plain = deliver_plain w t from msg e in record { cache = plain.cache; number = ap (λ (p : ℕ × Slice). p.0) plain.place; told = plain.told }
 
 kept : (w : Setup) (t : Tile) (from : ℕ) (msg : Msg) → Kept w t from msg (tile_delivered w t from msg)
 kept w t from (GetS n) = heard_kept w t from (GetS n) n (Asks Read) (may_send w.config from t.number (GetS n))
@@ -147,9 +81,6 @@ deliver_stays w t from msg h = record { cache = (kept w t from msg).cache h; num
 
 pub deliver_told : ToldToReceivers
 deliver_told w t from msg = (kept w t from msg).told
-
-pub deliver_silent : (w : Setup) (t : Tile) (from : ℕ) (msg : Msg) → All (λ m. up_of m.1 ≡ None) (tile_delivered w t from msg).mail
-deliver_silent w t from msg = (kept w t from msg).mail
 
 -- the start
 

@@ -2,9 +2,14 @@
 use Rattle.std.proofs.Common.{◌≡◌, ℕ, ◌<◌, Bool, true, false, [], ◌∷◌, length, Some, None, refl, sym, ap, ◌∙◌, inl, inr, subst}
 use Rattle.std.proofs.lemmas.Bool.{cases_Bool, eqb-true, eq-eqb, cond-true, cond-false, false_from_ne_true}
 use Rattle.std.specs.Prelude.{Option, ◌==◌, if◌then◌else◌}
+use Rattle.std.specs.List.{cons_option}
 use Rattle.sim_base.specs.declared.lines.LineData.{LineData}
 use Rattle.rv_exec.specs.Access.{Asked}
+use Rattle.wire_msg.specs.declared.lines.Want.TheVariants.{Read, Write}
 use Rattle.wire_msg.specs.declared.lines.Up.{Up}
+use Rattle.wire_msg.specs.declared.lines.Up.TheVariants.{Asks, GivesUp, Acknowledges, HandsOver}
+use Rattle.wire_msg.specs.declared.messages.Msg.{Msg}
+use Rattle.wire_msg.specs.Message.{up_of, is_about, up_about}
 use Rattle.tile_core.specs.declared.cores.Status.{Status}
 use Rattle.tile_core.specs.declared.cores.Status.TheVariants.{Run, Writing}
 use Rattle.tile_core.specs.Gathering.{Gathering}
@@ -14,7 +19,7 @@ use Rattle.tile_cache.specs.declared.ways.Hold.TheVariants.{S, M}
 use Rattle.tile_cache.specs.Cache.{Sets}
 use Rattle.tile_cache.specs.Copy.{Copy, absent, shared, modified, held_as, copy_of, with_data}
 use Rattle.tile_cache.proofs.CopyLemmas.{write_shows}
-use Rattle.tile_node.specs.Tile.{Tile, Act, place_in_line, done_on, with_written}
+use Rattle.tile_node.specs.Tile.{Tile, Act, up_message, place_in_line, done_on, with_written}
 use Rattle.tile_node.specs.Step.{steps_in}
 use Rattle.tile_node.specs.OneLine.{wants, wants_by, told_about, data_written, data_after, Happening, nothing, at_line}
 use Rattle.tile_node.specs.OneLineLaws.{Shows}
@@ -46,7 +51,7 @@ shows_else t line k act h g here there =
     ]
 
 -- an act that leaves a line alone
-pub leaves_lines : (t : Tile) (k : ℕ) (act : Act) → copy_of act.tile.cache k ≡ copy_of t.cache k → told_about k act.told ≡ [] → wants act.tile k ≡ wants t k
+pub leaves_lines : (t : Tile) (k : ℕ) (act : Act) → copy_of act.tile.cache k ≡ copy_of t.cache k → told_about k act.mail ≡ [] → wants act.tile k ≡ wants t k
     → Shows t k act nothing
 leaves_lines t k act copy told waits = record { copy = copy; told = told; wants = waits }
 
@@ -59,12 +64,27 @@ pub shows_if_at : (b : Bool) (t : Tile) (line k : ℕ) (x y : Act) (h g : Happen
 shows_if_at true t line k x y h g here there = here refl
 shows_if_at false t line k x y h g here there = there refl
 
--- what is told of a line shows there alone
-pub told_here : (to line : ℕ) (says : Up) → told_about line (record { to = to; line = line; says = says } ∷ []) ≡ says ∷ []
-told_here to line says = rw (eq-eqb line line refl) refl
+-- a message that says nothing to homes says nothing of a line to its home
+pub alike : {A : Type 0} (b : Bool) (x : A) → (if b then x else x) ≡ x
+alike true x = refl
+alike false x = refl
 
-pub told_there : (to line k : ℕ) (says : Up) → (k == line) ≡ false → told_about k (record { to = to; line = line; says = says } ∷ []) ≡ []
-told_there to line k says ne = rw (test_turned k line ne) refl
+pub up_none : (k : ℕ) (msg : Msg) → up_of msg ≡ None → up_about k msg ≡ None
+up_none k msg e = ap (λ o. if is_about k msg then o else None) e ∙ alike (is_about k msg) None
+
+-- what is told of a line shows there alone
+pub up_is : (k line : ℕ) (says : Up) → up_about k (up_message line says) ≡ (if line == k then Some says else None)
+up_is k line (Asks Read) = refl
+up_is k line (Asks Write) = refl
+up_is k line (GivesUp content) = refl
+up_is k line Acknowledges = refl
+up_is k line (HandsOver content) = refl
+
+pub told_here : (to line : ℕ) (says : Up) → told_about line ((to, up_message line says) ∷ []) ≡ says ∷ []
+told_here to line says = ap (λ o. cons_option o []) (up_is line line says ∙ cond-true (line == line) _ _ (eq-eqb line line refl))
+
+pub told_there : (to line k : ℕ) (says : Up) → (k == line) ≡ false → told_about k ((to, up_message line says) ∷ []) ≡ []
+told_there to line k says ne = ap (λ o. cons_option o []) (up_is k line says ∙ cond-false (line == k) _ _ (test_turned k line ne))
 
 -- a tile that can step waits for nothing
 pub waits_for_nothing : (write : Gathering) (k : ℕ) (status : Status) → steps_in status ≡ true → wants_by write k status ≡ None

@@ -50,7 +50,7 @@ hit_other t access way k h ne =
     used_there (touched t.cache line) t.core.write access line k way.content (IsCache-touched t.cache line h).some_set refl ne ∙ touch_hides t.cache line k h.some_set
 
 hit_shows : (t : Tile) (access : Option Asked) (way : Way) (k : ℕ) (act : Act) → IsCache t.cache → way_of t.cache (line_missed t.core.write access) ≡ Some way
-    → act.tile.cache ≡ used (touched t.cache (line_missed t.core.write access)) access way.content → act.told ≡ [] → ((n : ℕ) → wants act.tile n ≡ wants t n)
+    → act.tile.cache ≡ used (touched t.cache (line_missed t.core.write access)) access way.content → act.mail ≡ [] → ((n : ℕ) → wants act.tile n ≡ wants t n)
     → Shows t k act (at_line (line_missed t.core.write access) k (hit (data_after access)))
 hit_shows t access way k act h e cache told waits =
     let line : ℕ = line_missed t.core.write access in

@@ -22,7 +22,7 @@ use Rattle.tile_core.specs.Plan.{plan_by, plan_of}
 use Rattle.tile_core.specs.declared.cores.Status.{Status}
 use Rattle.tile_core.specs.declared.cores.Status.TheVariants.{Idle, Run, Miss, Called, Writing, AtBarrier, Probing, Trapped}
 use Rattle.wire_msg.specs.declared.messages.Msg.{Msg}
-use Rattle.tile_node.specs.Tile.{Tile, Act, sent_by}
+use Rattle.tile_node.specs.Tile.{Tile, Act}
 use Rattle.tile_node.specs.Answers.{Answers, IsOf}
 use Rattle.tile_node.specs.AtOnce.{IsQuietStep, StepsQuietly, runs, runs_freely}
 use Rattle.tile_node.specs.Step.{accesses, does_locally, follows, tile_step, steps_in, can_step, waits_for_limit, looks_around}
@@ -166,5 +166,5 @@ done_at_once w t new config free attempt same fits tells has is made =
 pub answers_at_once : (w : Setup) (v t : Tile) → v ≡ t → (new : Tile) (sent : List (ℕ × Msg)) → IsQuietStep t new (tile_step w t) → v.spent ≡ false
     → Answers (Ok (Some (Exec v.core.thread))) t new sent sent (tile_step w t)
 answers_at_once w v t is new sent made able =
-    let stays : sent ≡ sent ++ sent_by (tile_step w t) = sym (ap (λ m. sent ++ m) made.quiet ∙ append-nil sent) in
+    let stays : sent ≡ sent ++ (tile_step w t).mail = sym (ap (λ m. sent ++ m) made.quiet ∙ append-nil sent) in
     (rw is at able, made.tile, stays, rw is (sym made.commits))

@@ -8,7 +8,7 @@ use Rattle.tile_core.specs.declared.cores.Status.{Status}
 use Rattle.tile_core.specs.declared.cores.Status.TheVariants.{Miss, Probing}
 use Rattle.tile_core.specs.Gathering.{Gathering}
 use Rattle.clock_policy.specs.Probe.{IsStreamOf}
-use Rattle.tile_node.specs.Tile.{Tile, Act, sent_by}
+use Rattle.tile_node.specs.Tile.{Tile, Act}
 
 -- what is known of a core that waits: the byte that a miss is for is one of its write's, and there was no eighth reply to
 -- a probe
@@ -29,5 +29,5 @@ pub record IsOf (w : Setup) (t : Tile) : Type 0 where
 -- what a step or a delivery answers: Ok where the tile wasn't spent, with the tile and the action of the act, and with
 -- what it sends after what was there; after want of memory the tile is spent, and nothing is said of what was sent
 abbrev pub Answers : Result (Option Action) NoMemory → Tile → Tile → List (ℕ × Msg) → List (ℕ × Msg) → Act → Type 0
-Answers (Ok action) old new out_old out_new act = (old.spent ≡ false) × (new ≡ act.tile) × (out_new ≡ out_old ++ sent_by act) × (action ≡ act.action)
+Answers (Ok action) old new out_old out_new act = (old.spent ≡ false) × (new ≡ act.tile) × (out_new ≡ out_old ++ act.mail) × (action ≡ act.action)
 Answers (Err e) old new out_old out_new act = new.spent ≡ true

@@ -18,7 +18,7 @@ use Rattle.tile_core.specs.declared.cores.TileCore.{TileCore}
 use Rattle.tile_core.specs.declared.cores.Status.{Status}
 use Rattle.tile_core.specs.declared.cores.Status.TheVariants.{Run}
 use Rattle.tile_core.specs.Core.{line_at}
-use Rattle.tile_node.specs.Tile.{Tile, Act, sent_by}
+use Rattle.tile_node.specs.Tile.{Tile, Act}
 use Rattle.tile_node.specs.Step.{waits_for_limit, looks_around}
 
 -- whether a core's thread executes an instruction in its step: it runs, and no policy holds it up
@@ -56,7 +56,7 @@ steps_at_once w t = not t.spent && runs_freely w.config t.core && executes_at_on
 -- a quiet step is an act that is an instruction of the thread, sends nothing and leaves the core's status
 pub record IsQuietStep (old new : Tile) (act : Act) : Type 0 where
   pub tile : new ≡ act.tile
-  pub quiet : sent_by act ≡ []
+  pub quiet : act.mail ≡ []
   pub commits : act.action ≡ Some (Exec old.core.thread)
   pub stays : new.core.status ≡ old.core.status
 

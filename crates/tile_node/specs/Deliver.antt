@@ -24,7 +24,7 @@ use Rattle.tile_cache.specs.declared.ways.Way.{Way}
 use Rattle.tile_cache.specs.Cache.{Sets, way_of, content_of, victim_of, without_line, placed, downgraded}
 use Rattle.dir_slice.specs.Directory.{reaction, home_at, after_step, mail_of}
 use Rattle.clock_policy.specs.Probe.{may_go}
-use Rattle.tile_node.specs.Tile.{Tile, Act, Told, quiet, to_home, with_status, without_reservation_on, suits, is_only_read, access_cost, with_access, with_byte_got}
+use Rattle.tile_node.specs.Tile.{Tile, Act, quiet, up_message, to_home, with_status, without_reservation_on, suits, is_only_read, access_cost, with_access, with_byte_got}
 
 -- the home's role: what the line's home makes of what a node tells it
 abbrev pub home_does : Setup → Tile → ℕ → ℕ → Up → Act
@@ -33,7 +33,7 @@ home_does w t from line says =
     record (quiet (record t { slice = record t.slice { homes = after_step t.slice.homes line step } })) { mail = mail_of step }
 
 -- room for a line: the victim leaves, and goes home where it was in M, which ends a reservation on it
-abbrev pub put_home : Setup → ℕ → Option LineData → List Told
+abbrev pub put_home : Setup → ℕ → Option LineData → List (ℕ × Msg)
 put_home w line None = []
 put_home w line (Some content) = to_home w line (GivesUp content) ∷ []
 
@@ -45,10 +45,10 @@ victim_tile t None = t
 victim_tile t (Some (line, M)) = given_up_tile t line
 victim_tile t (Some (line, S)) = record t { cache = without_line t.cache line }
 
-abbrev pub victim_told : Setup → Tile → Option (ℕ × Hold) → List Told
-victim_told w t None = []
-victim_told w t (Some (line, M)) = put_home w line (content_of t.cache line)
-victim_told w t (Some (line, S)) = []
+abbrev pub victim_mail : Setup → Tile → Option (ℕ × Hold) → List (ℕ × Msg)
+victim_mail w t None = []
+victim_mail w t (Some (line, M)) = put_home w line (content_of t.cache line)
+victim_mail w t (Some (line, S)) = []
 
 -- a miss ends: the line is placed, and what waited for it is done on it in the same event
 abbrev pub waiting_done : Setup → Tile → Sets → Option Asked → LineData → ℕ → Tile
@@ -64,8 +64,7 @@ miss_ends_for w t victim access line hold content delay =
     let room : Tile = victim_tile t victim in
     record {
       tile = waiting_done w room (placed room.cache line hold content) access content delay;
-      told = victim_told w t victim;
-      mail = [];
+      mail = victim_mail w t victim;
       action = Some (waiting_action t.core.thread access);
     }
 
@@ -83,15 +82,15 @@ data_taken w t line hold content delay (Miss access) =
 data_taken w t line hold content delay _ = quiet t
 
 -- a copy in S is dropped, and whether there was one or not, that is acknowledged
-abbrev pub told_to : ℕ → ℕ → Up → List Told
-told_to node line says = (record { to = node; line = line; says = says }) ∷ []
+abbrev pub told_to : ℕ → ℕ → Up → List (ℕ × Msg)
+told_to node line says = (node, up_message line says) ∷ []
 
 abbrev pub inv_tile : Tile → ℕ → Option Way → Tile
 inv_tile t line None = t
 inv_tile t line (Some way) = if is_only_read way.hold then record t { cache = without_line t.cache line } else t
 
 abbrev pub inv_taken : Tile → ℕ → ℕ → Act
-inv_taken t from line = record (quiet (inv_tile t line (way_of t.cache line))) { told = told_to from line Acknowledges }
+inv_taken t from line = record (quiet (inv_tile t line (way_of t.cache line))) { mail = told_to from line Acknowledges }
 
 -- a line in M is handed over: for a reader it stays in S, for a writer it goes. A line that isn't there in M was given
 -- up already, which its home hears of
@@ -103,7 +102,7 @@ abbrev pub fetch_by : Tile → ℕ → ℕ → Want → Option Way → Act
 fetch_by t from line want None = quiet t
 fetch_by t from line want (Some way) =
     if is_only_read way.hold then quiet t
-    else record (quiet (fetched_tile t line want)) { told = told_to from line (HandsOver way.content) }
+    else record (quiet (fetched_tile t line want)) { mail = told_to from line (HandsOver way.content) }
 
 abbrev pub fetch_taken : Tile → ℕ → ℕ → Want → Act
 fetch_taken t from line want = fetch_by t from line want (way_of t.cache line)

@@ -1,7 +1,6 @@
 -- For the contracts of the code alone: no clause of a public function needs this. What a rule's function answers, and
 -- parts of acts.
-use Rattle.std.specs.Prelude.{ℕ, ◌≡◌, ◌++◌, Bool, true, false, List, [], Option, Some, Result, Ok, Err}
-use Rattle.sim_base.specs.declared.actions.Action.TheVariants.{Exec}
+use Rattle.std.specs.Prelude.{ℕ, ◌≡◌, ◌++◌, Bool, true, false, List, [], Option, Result, Ok, Err}
 use Rattle.sim_base.specs.declared.actions.Action.{Action}
 use Rattle.sim_base.specs.declared.memory.NoMemory.{NoMemory}
 use Rattle.wire_msg.specs.declared.messages.Msg.{Msg}
@@ -17,7 +16,7 @@ use Rattle.tile_node.specs.declared.at_once.Attempt.{Attempt}
 use Rattle.tile_node.specs.declared.at_once.Attempt.TheVariants.{Done, Asks, Other}
 use Rattle.tile_node.specs.AtOnce.{IsQuietStep}
 use Rattle.tile_node.specs.Step.{follows}
-use Rattle.tile_node.specs.Tile.{Tile, Act, sent_by, accessed, with_written, one_more, later, access_class}
+use Rattle.tile_node.specs.Tile.{Tile, Act, accessed, with_written, one_more, later, access_class}
 
 -- want of memory leaves a tile in its place, and its core as it was
 pub record IsKept (old new : Tile) : Type 0 where
@@ -30,12 +29,12 @@ pub record IsKept (old new : Tile) : Type 0 where
 
 -- what a rule's function answers
 abbrev pub Makes : Result (Option Action) NoMemory → Tile → Tile → List (ℕ × Msg) → List (ℕ × Msg) → Act → Type 0
-Makes (Ok action) old new out_old out_new act = (new ≡ act.tile) × (out_new ≡ out_old ++ sent_by act) × (action ≡ act.action)
+Makes (Ok action) old new out_old out_new act = (new ≡ act.tile) × (out_new ≡ out_old ++ act.mail) × (action ≡ act.action)
 Makes (Err e) old new out_old out_new act = IsKept old new
 
 -- the same of a function that sends nothing
 abbrev pub MakesAlone : Option Action → Tile → Act → Type 0
-MakesAlone action new act = (new ≡ act.tile) × (sent_by act ≡ []) × (action ≡ act.action)
+MakesAlone action new act = (new ≡ act.tile) × (act.mail ≡ []) × (action ≡ act.action)
 
 -- whether an attempt to do the next instruction at once did it
 abbrev pub is_done : Attempt → Bool

@@ -2,7 +2,7 @@
 -- what it tells the line's home, and what it waits for of the line are by that. Nothing here has to be believed: the laws
 -- of the other module say that the tile's definitions show so, and the coherence of lines speaks of nothing else. This
 -- simulator's own.
-use Rattle.std.specs.Prelude.{ℕ, ◌==◌, ◌&&◌, Bool, true, false, List, [], ◌∷◌, map, filter, if◌then◌else◌, Option, Some, None}
+use Rattle.std.specs.Prelude.{ℕ, ◌==◌, ◌&&◌, Bool, true, false, List, [], ◌∷◌, if◌then◌else◌, Option, Some, None}
 use Rattle.std.specs.List.{filter_map}
 use Rattle.sim_base.specs.declared.lines.LineData.{LineData}
 use Rattle.rv_exec.specs.Access.{Asked}
@@ -13,7 +13,7 @@ use Rattle.wire_msg.specs.declared.lines.Want.{Want}
 use Rattle.wire_msg.specs.declared.lines.Want.TheVariants.{Read, Write}
 use Rattle.wire_msg.specs.declared.lines.Up.{Up}
 use Rattle.wire_msg.specs.declared.lines.Up.TheVariants.{Asks, GivesUp, Acknowledges, HandsOver}
-use Rattle.wire_msg.specs.Message.{Down, gives, drops, fetches, may_send}
+use Rattle.wire_msg.specs.Message.{Down, gives, drops, fetches, may_send, up_about}
 use Rattle.tile_core.specs.declared.cores.Status.{Status}
 use Rattle.tile_core.specs.declared.cores.Status.TheVariants.{Miss}
 use Rattle.tile_core.specs.declared.plans.Plan.{Plan}
@@ -26,7 +26,7 @@ use Rattle.tile_cache.specs.declared.ways.Hold.TheVariants.{S, M}
 use Rattle.tile_cache.specs.declared.ways.Way.{Way}
 use Rattle.tile_cache.specs.Cache.{way_of, victim_of, line_with}
 use Rattle.tile_cache.specs.Copy.{Copy, absent, shared, modified, held_as, with_data}
-use Rattle.tile_node.specs.Tile.{Tile, Told, access_want, place_in_line, done_on}
+use Rattle.tile_node.specs.Tile.{Tile, access_want, place_in_line, done_on}
 use Rattle.tile_node.specs.Step.{is_writing, waits_for_limit, looks_around}
 use Rattle.tile_node.specs.Deliver.{hold_suits}
 
@@ -44,12 +44,9 @@ wants_by write k _ = None
 abbrev pub wants : Tile → ℕ → Option Want
 wants t k = wants_by t.core.write k t.core.status
 
--- what is said about a line, in order
-abbrev pub says_about : ℕ → Told → Option Up
-says_about k told = if told.line == k then Some told.says else None
-
-abbrev pub told_about : ℕ → List Told → List Up
-told_about k told = filter_map (says_about k) told
+-- what messages say of a line to its home, in order, whoever gets them
+abbrev pub told_about : ℕ → List (ℕ × Msg) → List Up
+told_about k mail = filter_map (λ m. up_about k m.1) mail
 
 -- what an access, or the reading of a write call's next byte, makes of a line's data
 
@@ -197,7 +194,3 @@ abbrev pub heard : Status → Option Want → Down → Happening
 heard status want (gives given content) = if takes given want then came (hold_given given) (data_after (waiting status) content) else nothing
 heard status want drops = invalidated
 heard status want (fetches other) = fetched other
-
--- the messages to a node, in order
-abbrev pub messages_to : ℕ → List (ℕ × Msg) → List Msg
-messages_to node sent = map (λ m. m.1) (filter (λ m. m.0 == node) sent)

@@ -1,6 +1,6 @@
 -- What a tile does is at each line what its view there says: how its steps and deliveries show, what may happen where, who is
 -- told, and what its home's role leaves alone. Each is a law that is proved of the tile's definitions.
-use Rattle.std.specs.Prelude.{ℕ, ◌<◌, ◌≡◌, ◌≢◌, ◌⊎◌, true, [], All, Option, Some, None}
+use Rattle.std.specs.Prelude.{ℕ, ◌<◌, ◌≡◌, ◌≢◌, ◌⊎◌, true, All, Option, Some, None}
 use Rattle.sim_base.specs.declared.lines.LineData.{LineData}
 use Rattle.sim_base.specs.Numbering.{home_of}
 use Rattle.elf_image.specs.Layout.{Setup}
@@ -9,20 +9,20 @@ use Rattle.wire_msg.specs.declared.lines.Want.{Want}
 use Rattle.wire_msg.specs.declared.lines.Want.TheVariants.{Read, Write}
 use Rattle.wire_msg.specs.declared.lines.Up.{Up}
 use Rattle.wire_msg.specs.declared.lines.Up.TheVariants.{Asks, GivesUp, Acknowledges, HandsOver}
-use Rattle.wire_msg.specs.Message.{Down, may_send, line_of, up_of, down_about, ups, downs}
+use Rattle.wire_msg.specs.Message.{Down, may_send, line_of, up_of, down_about, up_about, down_of}
 use Rattle.tile_cache.specs.declared.ways.Hold.{Hold}
 use Rattle.tile_cache.specs.declared.ways.Hold.TheVariants.{S, M}
 use Rattle.tile_cache.specs.Cache.{IsCache}
 use Rattle.tile_cache.specs.Copy.{Copy, absent, shared, modified, copy_of}
-use Rattle.tile_node.specs.Tile.{Tile, Act, sent_by, start_tile}
+use Rattle.tile_node.specs.Tile.{Tile, Act, start_tile}
 use Rattle.tile_node.specs.Step.{can_step, tile_step}
 use Rattle.tile_node.specs.Deliver.{home_does, tile_delivered}
-use Rattle.tile_node.specs.OneLine.{Happening, copy_after, told_about, told_after, wants, wants_after, step_at, delivered_at, heard, nothing, evicted, hit, asked, came, messages_to}
+use Rattle.tile_node.specs.OneLine.{Happening, copy_after, told_about, told_after, wants, wants_after, step_at, delivered_at, heard, nothing, evicted, hit, asked, came}
 
 -- an act shows so at a line
 pub record Shows (t : Tile) (k : ℕ) (act : Act) (h : Happening) : Type 0 where
   pub copy : copy_of act.tile.cache k ≡ copy_after h (copy_of t.cache k)
-  pub told : told_about k act.told ≡ told_after h (copy_of t.cache k)
+  pub told : told_about k act.mail ≡ told_after h (copy_of t.cache k)
   pub wants : wants act.tile k ≡ wants_after h (wants t k)
 
 -- so does a step of a tile that can step, and a delivery
@@ -89,48 +89,31 @@ StepStaysTile = (w : Setup) (t : Tile) → IsCache t.cache → StaysTile t (tile
 abbrev pub DeliverStaysTile : Type 0
 DeliverStaysTile = (w : Setup) (t : Tile) (from : ℕ) (msg : Msg) → IsCache t.cache → StaysTile t (tile_delivered w t from msg)
 
--- who is told: a line's home of what is asked for or given up; and what answers a home's word about a line goes to the
--- node that sent it
+-- who is told: what is said to a line's home goes there; and what answers a home's word about a line goes to the node that
+-- sent it
+abbrev pub GoesHome : Setup → ℕ × Msg → Type 0
+GoesHome w m = (line : ℕ) (says : Up) → up_about line m.1 ≡ Some says → m.0 ≡ home_of w.config line
+
+abbrev pub ToldToHomes : Type 0
+ToldToHomes = (w : Setup) (t : Tile) → All (GoesHome w) (tile_step w t).mail
+
 abbrev pub IsToldTo : Setup → ℕ → Msg → ℕ → ℕ → Up → Type 0
 IsToldTo w from msg to line (Asks want) = to ≡ home_of w.config line
 IsToldTo w from msg to line (GivesUp content) = to ≡ home_of w.config line
 IsToldTo w from msg to line Acknowledges = (to ≡ from) × (down_about line msg ≢ None)
 IsToldTo w from msg to line (HandsOver content) = (to ≡ from) × (down_about line msg ≢ None)
 
-abbrev pub ToldToHomes : Type 0
-ToldToHomes = (w : Setup) (t : Tile) → All (λ told. told.to ≡ home_of w.config told.line) (tile_step w t).told
+abbrev pub GoesRightly : Setup → ℕ → Msg → ℕ × Msg → Type 0
+GoesRightly w from msg m = (line : ℕ) (says : Up) → up_about line m.1 ≡ Some says → IsToldTo w from msg m.0 line says
 
 abbrev pub ToldToReceivers : Type 0
-ToldToReceivers = (w : Setup) (t : Tile) (from : ℕ) (msg : Msg)
-    → All (λ told. IsToldTo w from msg told.to told.line told.says) (tile_delivered w t from msg).told
-
--- what the messages to a line's home say of the line to it is what is told of it, where a home's word comes from the
--- line's home
-abbrev pub UpsAreTold : Setup → Act → ℕ → Type 0
-UpsAreTold w act k = ups k (messages_to (home_of w.config k) (sent_by act)) ≡ told_about k act.told
-
-abbrev pub StepUpsAreTold : Type 0
-StepUpsAreTold = (w : Setup) (t : Tile) (k : ℕ) → UpsAreTold w (tile_step w t) k
-
-abbrev pub IsFromHome : Setup → ℕ → Msg → Type 0
-IsFromHome w from msg = (line : ℕ) → down_about line msg ≢ None → from ≡ home_of w.config line
-
-abbrev pub DeliverUpsAreTold : Type 0
-DeliverUpsAreTold = (w : Setup) (t : Tile) (from : ℕ) (msg : Msg) (k : ℕ) → IsFromHome w from msg → UpsAreTold w (tile_delivered w t from msg) k
-
--- and nothing is said from a home, but where a home hears something
-abbrev pub StepSaysNothingDown : Type 0
-StepSaysNothingDown = (w : Setup) (t : Tile) (k node : ℕ) → downs k (messages_to node (sent_by (tile_step w t))) ≡ []
-
-abbrev pub DeliverSaysNothingDown : Type 0
-DeliverSaysNothingDown = (w : Setup) (t : Tile) (from : ℕ) (msg : Msg) (k node : ℕ) → up_of msg ≡ None
-    → downs k (messages_to node (sent_by (tile_delivered w t from msg))) ≡ []
+ToldToReceivers = (w : Setup) (t : Tile) (from : ℕ) (msg : Msg) → All (GoesRightly w from msg) (tile_delivered w t from msg).mail
 
 -- the home's role: what a node tells a home is the home's alone. All else leaves the tile's lines as a home alone, and
--- what is sent besides is about no line
+-- nothing that is sent says anything from a home
 pub record LeavesHomes (t : Tile) (act : Act) : Type 0 where
   pub slice : act.tile.slice ≡ t.slice
-  pub mail : All (λ m. line_of m.1 ≡ None) act.mail
+  pub mail : All (λ m. down_of m.1 ≡ None) act.mail
 
 abbrev pub StepLeavesHomes : Type 0
 StepLeavesHomes = (w : Setup) (t : Tile) → LeavesHomes t (tile_step w t)

@@ -66,7 +66,7 @@ probes t = record (quiet (with_status (record t { probes = after_draw t.probes }
 -- a line that isn't there, or not as it has to be, is asked for
 abbrev pub misses : Setup → Tile → ℕ → Want → Option Asked → Act
 misses w t line want access = record (quiet (record (with_status t (Miss access)) { misses = one_more t.misses })) {
-  told = to_home w line (Asks want) ∷ [];
+  mail = to_home w line (Asks want) ∷ [];
 }
 
 -- the third: all bytes of a write are read, and it is sent

@@ -1,6 +1,6 @@
 -- A tile: a core, a private cache, a slice of the directory, and counts; and what it does in one event. After Graphite
 -- (HPCA 2010).
-use Rattle.std.specs.Prelude.{ℕ, ◌+◌, ◌%◌, ◌==◌, Bool, true, false, List, [], ◌++◌, map, slice_index, if◌then◌else◌, Option, Some, None}
+use Rattle.std.specs.Prelude.{ℕ, ◌+◌, ◌%◌, ◌==◌, Bool, true, false, List, [], slice_index, if◌then◌else◌, Option, Some, None}
 use Rattle.sim_base.specs.declared.actions.Action.{Action}
 use Rattle.sim_base.specs.declared.lines.LineData.{LineData}
 use Rattle.sim_base.specs.LittleEndian.{loaded}
@@ -71,23 +71,16 @@ start_tile w tile = record {
 abbrev pub counts_of : Tile → TileCounts
 counts_of t = record { clock = t.core.clock; instr = t.instr; hits = t.hits; misses = t.misses }
 
--- what a tile asks or tells a node about a line
-pub record Told : Type 0 where
-  pub to : ℕ
-  pub line : ℕ
-  pub says : Up
-
--- what a tile does in an event: the tile afterwards; what it asks or tells about lines; what else it sends, with the
--- receivers; and the action of the flat machine that it commits, if it does
+-- what a tile does in an event: the tile afterwards; what it sends, in order, with the receivers; and the action of the flat
+-- machine that it commits, if it does
 pub record Act : Type 0 where
   pub tile : Tile
-  pub told : List Told
   pub mail : List (ℕ × Msg)
   pub action : Option Action
 
 -- nothing but a change of the tile
 abbrev pub quiet : Tile → Act
-quiet t = record { tile = t; told = []; mail = []; action = None }
+quiet t = record { tile = t; mail = []; action = None }
 
 -- the message that says something about a line
 abbrev pub up_message : ℕ → Up → Msg
@@ -97,16 +90,9 @@ up_message line (GivesUp content) = PutM line content
 up_message line Acknowledges = InvAck line
 up_message line (HandsOver content) = FetchAck line content
 
-abbrev pub told_message : Told → ℕ × Msg
-told_message t = (t.to, up_message t.line t.says)
-
--- all that is sent, in order
-abbrev pub sent_by : Act → List (ℕ × Msg)
-sent_by act = map told_message act.told ++ act.mail
-
 -- what goes to a line's home
-abbrev pub to_home : Setup → ℕ → Up → Told
-to_home w line says = record { to = home_of w.config line; line = line; says = says }
+abbrev pub to_home : Setup → ℕ → Up → ℕ × Msg
+to_home w line says = (home_of w.config line, up_message line says)
 
 -- parts of tiles
 

@@ -1,5 +1,5 @@
 ghost use Rattle.tile_node.specs.OneLineLaws.{StepShows, DeliverShows, DownsHappen, OthersLeave, StepMayHappen, DeliverMayHappen, WantsOne, StepStaysTile, DeliverStaysTile, TilesStartEmpty};
-ghost use Rattle.tile_node.specs.OneLineLaws.{ToldToHomes, ToldToReceivers, StepUpsAreTold, DeliverUpsAreTold, StepSaysNothingDown, DeliverSaysNothingDown, StepLeavesHomes, DeliverLeavesHomes, HomesHear, HomesSpeakOfLines};
+ghost use Rattle.tile_node.specs.OneLineLaws.{ToldToHomes, ToldToReceivers, StepLeavesHomes, DeliverLeavesHomes, HomesHear, HomesSpeakOfLines};
 
 /// A law: a step of a tile that can step shows at each line as what happens there: what its cache has of the line
 /// afterwards, what it tells of it, and what it waits for of it.
@@ -42,17 +42,8 @@ pub fn lines_are_told_to_homes()
     ensures delivery { ToldToReceivers }
 {}
 
-/// A law: the messages that a tile sends to a line's home say of the line to it what it tells of the line, and no more.
-/// None of them says anything from a home, but where a home hears something.
-pub fn messages_say_what_is_told()
-    ensures step { StepUpsAreTold }
-    ensures delivery { DeliverUpsAreTold }
-    ensures step_down { StepSaysNothingDown }
-    ensures delivery_down { DeliverSaysNothingDown }
-{}
-
 /// A law: what a node tells a home is the home's alone, which speaks of that line to nodes that have it. A step and every
-/// other message leave the tile's lines as a home alone, and what is sent besides is about no line.
+/// other message leave the tile's lines as a home alone, and nothing that is sent then says anything from a home.
 pub fn homes_stand_apart()
     ensures step { StepLeavesHomes }
     ensures delivery { DeliverLeavesHomes }

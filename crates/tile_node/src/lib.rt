@@ -13,6 +13,6 @@ mod tile;
 
 pub use laws::{
     deliveries_show_at_lines, happenings_are_right, homes_stand_apart, lines_are_told_to_homes,
-    messages_say_what_is_told, steps_show_at_lines, tiles_stay_tiles, words_of_homes_happen,
+    steps_show_at_lines, tiles_stay_tiles, words_of_homes_happen,
 };
 pub use tile::{TileCounts, TileNode};

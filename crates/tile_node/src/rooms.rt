@@ -1,9 +1,9 @@
 //! How lines leave a cache: room is made, a line is given up or dropped, a reservation ends.
 
-ghost use Rattle.std.specs.Prelude.{◌≡◌, ◌++◌, map, None, OnOk, OnErr};
+ghost use Rattle.std.specs.Prelude.{◌≡◌, ◌++◌, None, OnOk, OnErr};
 ghost use Rattle.tile_cache.specs.Cache.{content_of, victim_of, LeavesRoom, way_of};
-ghost use Rattle.tile_node.specs.Tile.{told_message, unless_on};
-ghost use Rattle.tile_node.specs.Deliver.{victim_tile, victim_told, given_up_tile, put_home, inv_tile, fetched_tile};
+ghost use Rattle.tile_node.specs.Tile.{unless_on};
+ghost use Rattle.tile_node.specs.Deliver.{victim_tile, victim_mail, given_up_tile, put_home, inv_tile, fetched_tile};
 ghost use Rattle.tile_node.specs.Inner.{IsKept};
 
 use crate::accesses::line_at;
@@ -33,7 +33,7 @@ impl TileNode {
         out: &mut Out,
     ) -> Result<(), NoMemory>
         ensures tile { OnOk result (self.new ≡ victim_tile self.old (victim_of self.old.cache line)) }
-        ensures told { OnOk result (out.new.items ≡ out.old.items ++ map told_message (victim_told world.now self.old (victim_of self.old.cache line))) }
+        ensures told { OnOk result (out.new.items ≡ out.old.items ++ victim_mail world.now self.old (victim_of self.old.cache line)) }
         ensures room { OnOk result (victim_of self.new.cache line ≡ None) }
         ensures err { OnErr result (IsKept self.old self.new) }
     {
@@ -50,7 +50,7 @@ impl TileNode {
     /// Gives up a line in M, with what it holds.
     fn give_up(&mut self, world: &World, line: Line, out: &mut Out) -> Result<(), NoMemory>
         ensures tile { OnOk result (self.new ≡ given_up_tile self.old line) }
-        ensures told { OnOk result (out.new.items ≡ out.old.items ++ map told_message (put_home world.now line (content_of self.old.cache line))) }
+        ensures told { OnOk result (out.new.items ≡ out.old.items ++ put_home world.now line (content_of self.old.cache line)) }
         ensures room { OnOk result (LeavesRoom self.old.cache line self.new.cache) }
         ensures err { OnErr result (IsKept self.old self.new) }
     {

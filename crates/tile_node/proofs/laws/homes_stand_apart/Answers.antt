@@ -1,5 +1,6 @@
 -- Each law is a lemma.
-use Rattle.tile_node.proofs.OneLineHomes.{homes_hear, homes_say}
+use Rattle.tile_node.proofs.OneLineHomes.{homes_hear}
+use Rattle.tile_node.proofs.OneLineSpeaks.{homes_say}
 use Rattle.tile_node.proofs.OneLinePlain.{deliver_leaves, step_leaves}
 use Rattle.tile_node.proofs.laws.homes_stand_apart.Goals as goal
 
