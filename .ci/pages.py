@@ -3,7 +3,8 @@
 
 docs/MODULES.md has to say what the first lines of the modules say. Each name in code font of docs/DEFINITIONS.md and
 docs/PROVED.md that looks like one of the repository's has to stand in specs/ or src/, and each file that they name has to be
-there. No cell of a table in README.md or docs/ may have more than 40 words. It changes nothing but with --write."""
+there. In README.md and docs/ no cell of a table may have more than 40 words, and each link to a file has to lead to one. It
+changes nothing but with --write."""
 import pathlib
 import re
 import sys
@@ -112,6 +113,15 @@ def check_cells(problems):
                         problems.append(f'{path.relative_to(TOP)}:{number}: a cell of {len(cell.split())} words')
 
 
+def check_links(problems):
+    """Each link to a file leads to one."""
+    for path in [TOP / 'README.md'] + sorted((TOP / 'docs').glob('*.md')):
+        for number, line in enumerate(path.read_text().splitlines(), 1):
+            for target in re.findall(r'\]\(([^)#]+)', line):
+                if '://' not in target and not (path.parent / target).exists():
+                    problems.append(f'{path.relative_to(TOP)}:{number}: there is no {target}')
+
+
 def main():
     problems = []
     page = modules_page(problems)
@@ -123,6 +133,7 @@ def main():
     for name in 'docs/DEFINITIONS.md', 'docs/PROVED.md':
         check_names(name, words, problems)
     check_cells(problems)
+    check_links(problems)
     for problem in problems:
         print(problem, file=sys.stderr)
     sys.exit(1 if problems else 0)
