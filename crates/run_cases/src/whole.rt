@@ -11,9 +11,9 @@ use std::io;
 /// How many bytes the stream has room for.
 const ROOM: usize = 4_000_000;
 
-/// Runs the simulator on a case's words, with the image under the name `program`, its settings and its journal under theirs,
-/// and prints the status, the outcome, the number of the journal's events, and what the stream took. Zero bytes are counted
-/// and not printed. Where the run wrote its journal to `written`, that file is printed too.
+/// Runs the simulator on a case's words, with the image under the name `program`, its settings under `settings` and its journal
+/// under `journal`, and prints the status, the outcome, the number of the journal's events, and, unless the case is `brief`, what
+/// the stream took: zero bytes are counted and not printed. Where a file `written` was written, it is printed too.
 pub fn run(rt: &impl Print, alloc: Global, case: &str) -> io::Result<()> {
     let Ok(words) = command(alloc, case) else {
         return println!(rt; "out of memory");

@@ -31,7 +31,7 @@ impl From<NoMemory> for ReplayFault {
 
 /// Makes a journal's events, in their order, on the machine that runs a world's image under its settings, from before
 /// the program runs. The first event that isn't enabled is refused, and so is a journal that leads to a state without an
-/// end. The seed has no say in it. This simulator's own.
+/// end. Of the seed only whom a tile asks depends, under the policy `LaxP2p`. This simulator's own.
 pub fn replay(alloc: Global, world: &World, journal: Journal) -> Result<Ran, ReplayFault>
     ensures { Replays world.now journal result }
 {
