@@ -25,6 +25,8 @@ def main() -> None:
     study.table("The same without the time that starting and joining the threads takes (the program `start`).", columns, rows)
     rows = [[name, *(number(clock[name, tiles]) for tiles in TILES)] for name in names]
     study.table("The clock of the last tile, in cycles.", columns, rows)
+    rows = [[name, *(number(middle(runs, lambda run: run.events, image=name, tiles=tiles)) for tiles in TILES)] for name in names]
+    study.table("Events that all nodes made together.", columns, rows)
     panels = [
         Panel("speed-up", [line(name, speedup[name]) for name in KERNELS]),
         Panel("without start and join", [line(name, without_start(name)) for name in KERNELS]),
