@@ -14,6 +14,8 @@ CHOICES = {
     "p2p": {"policy": "p2p"},
     "p2p, slack 1000": {"policy": "p2p", "slack": 1000, "interval": 1000},
 }
+# Names that are too long for the picture.
+SHORT = {"black_scholes": "options", "stream_cluster": "cluster", "lock_test_and_set": "lock"}
 
 
 def main() -> None:
@@ -61,7 +63,8 @@ def main() -> None:
         Panel("difference (%)", [line(choice, [abs(error[name, choice]) for name in names]) for choice in CHOICES]),
         Panel("variation (%)", [line(choice, [spread[name, choice] for name in names]) for choice in CHOICES]),
     ]
-    study.picture("Policies: size of the difference from barrier, and spread over seeds", "", list(names), panels)
+    places = [SHORT.get(name, name) for name in names]
+    study.picture("Policies: size of the difference from barrier, and spread over seeds", "", places, panels)
     study.finish()
 
 
