@@ -19,6 +19,8 @@ STYLES = (
     ("#cc79a7", "10 3 2 3", "diamond"),
     ("#56b4e9", "14 4", "cross"),
     ("#000000", "4 4", "plus"),
+    ("#e69f00", "10 2", "bar"),
+    ("#666666", "1 2", "wedge"),
 )
 
 
@@ -91,8 +93,10 @@ def mark(kind: str, x: float, y: float, colour: str) -> str:
         "diamond": "m0,-5l5,5l-5,5l-5,-5z",
         "cross": "m-4,-4l8,8m0,-8l-8,8",
         "plus": "m-5,0h10m-5,-5v10",
+        "bar": "m-5,-2h10v4h-10z",
+        "wedge": "m0,5l5,-9h-10z",
     }
-    fill = colour if kind in ("circle", "triangle") else "white"
+    fill = colour if kind in ("circle", "triangle", "bar") else "white"
     return f'<path d="M{x:.1f},{y:.1f}{shapes[kind]}" fill="{fill}" stroke="{colour}" stroke-width="1.5"/>'
 
 
