@@ -26,7 +26,7 @@ returns-in_err-ran-clause-stage g c =
 
 pub returns-clause-stage : goal.returns-clause-stage
 returns-clause-stage g c =
-    let checked : IsChecked c.in_ok-world.world.config = subst (λ w. IsChecked w.config) c.world.view_is c.world.invariant.0.checked in
+    let checked : IsChecked c.in_ok-world.world.config = subst (λ w. IsChecked w.config) c.world.view_is c.world.invariant.laid_out.checked in
     replay_ran c.args.request.now (g.F.Files.holds c.args.files.now) (g.F.Files.holds c.machine_of.new.files) (g.F.Files.read_faults c.args.files.now) (g.F.Files.read_faults c.machine_of.new.files) (g.F.Files.read_faults c.replayed_in.new.files)
     c.in_ok-world.world c.in_ok-world.ensures.kept c.in_ok-world.ensures.stage
     c.in_ok-events.events c.in_ok-events.ensures.stage c.in_ok-ran.ran c.in_ok-decide_run.field-0 checked c.in_ok-ran.ensures c.in_ok-decide_run.ensures

@@ -23,6 +23,6 @@ returns-in_err-ran-clause-stage g c =
 
 pub returns-clause-stage : goal.returns-clause-stage
 returns-clause-stage g c =
-    let checked : IsChecked c.in_ok-world.world.config = subst (λ w. IsChecked w.config) c.world.view_is c.world.invariant.0.checked in
+    let checked : IsChecked c.in_ok-world.world.config = subst (λ w. IsChecked w.config) c.world.view_is c.world.invariant.laid_out.checked in
     run_ran c.args.request.now (option_to_list (option_copied c.args.journal)) (g.F.Files.holds c.args.files.now) (g.F.Files.read_faults c.args.files.now) (g.F.Files.read_faults c.machine_of.new.files) c.in_ok-world.world
     c.in_ok-world.ensures.stage c.in_ok-ran.ran c.in_ok-decide_run.field-0 checked c.in_ok-ran.ensures c.in_ok-decide_run.ensures
