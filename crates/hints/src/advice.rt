@@ -188,7 +188,7 @@ fn push_write_fault(
     }
     push_line(
         text,
-        "What was to be printed was put. This file couldn't be written, and holds unknown bytes now:",
+        "What was to be printed was put. This file couldn't be written, and holds unknown bytes now, or isn't there:",
     )?;
     push_written(alloc, text, request)
 }
