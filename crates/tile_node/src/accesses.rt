@@ -1,3 +1,5 @@
+//! An access on a line that the cache has: which hold it needs, its cost, and its effect.
+
 ghost use Rattle.std.specs.Prelude.{◌≡◌, ◌+◌, ◌*◌, ◌^◌, ◌<◌, ◌≤◌, ℕ, Some, IsSome};
 ghost use Rattle.std.specs.Bool.{OnTrue};
 ghost use Rattle.rv_exec.specs.Access.{finish_of};

@@ -1,3 +1,5 @@
+//! The laws of tiles: how each event shows at each line, and what a tile tells a line's home.
+
 ghost use Rattle.tile_node.specs.OneLineLaws.{StepShows, DeliverShows, DownsHappen, OthersLeave, StepMayHappen, DeliverMayHappen, WantsOne, StepStaysTile, DeliverStaysTile, TilesStartEmpty};
 ghost use Rattle.tile_node.specs.OneLineLaws.{ToldToHomes, ToldToReceivers, StepLeavesHomes, DeliverLeavesHomes, HomesHear, HomesSpeakOfLines};
 
