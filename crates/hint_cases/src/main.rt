@@ -10,7 +10,7 @@ mod outcomes;
 use event_journal::{Event, Journal};
 use hints::{Known, Place, Waits, hint};
 use outcomes::outcome_of;
-use sim_base::{Config, Policy, Text};
+use sim_base::{Config, NoMemory, Policy, Text};
 use std::alloc::{AllocError, Global};
 use std::io;
 
@@ -37,7 +37,9 @@ fn told(alloc: Global, case: &str, words: &str) -> Result<String, AllocError> {
     let Some(outcome) = outcome_of(alloc, first, detail)? else {
         return String::from_str(alloc, "no outcome\n");
     };
-    let journal = journal(alloc, first, detail)?;
+    let Ok(journal) = journal(alloc, first, detail) else {
+        return String::from_str(alloc, "out of memory\n");
+    };
     let mut known = Known::at_first(alloc, first != "put");
     if first == "event" {
         known.refused = event_of(detail);
@@ -56,7 +58,7 @@ fn told(alloc: Global, case: &str, words: &str) -> Result<String, AllocError> {
 }
 
 /// Words as the command line has them. `''` is an empty one.
-fn list(alloc: Global, words: &str) -> Result<Vec<Text>, sim_base::NoMemory> {
+fn list(alloc: Global, words: &str) -> Result<Vec<Text>, NoMemory> {
     let mut all = Vec::new(alloc);
     for word in words.split_whitespace() {
         let word = if word == "''" { "" } else { word };
@@ -92,15 +94,13 @@ fn push_waits(waits: &mut Vec<Waits>) -> Result<(), AllocError> {
 }
 
 /// The events of a run: of a budget so many steps of node 1.
-fn journal(alloc: Global, first: &str, detail: &str) -> Result<Journal, AllocError> {
-    let mut events = Vec::new(alloc);
+fn journal(alloc: Global, first: &str, detail: &str) -> Result<Journal, NoMemory> {
+    let mut journal = Journal::new(alloc);
     if first == "budget" {
         let count = detail.parse::<u32>().unwrap_or(0);
-        for _ in 0..count {
-            events.push(Event::Step { node: 1 })?;
-        }
+        journal.push_times(Event::Step { node: 1 }, count)?;
     }
-    Ok(Journal { events })
+    Ok(journal)
 }
 
 /// A step or a delivery.

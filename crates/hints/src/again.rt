@@ -164,9 +164,18 @@ fn event_again<F: Files>(
         return Ok(None);
     };
     match read_journal(alloc, bytes.as_slice()) {
-        Ok(journal) => Ok(journal.events.get(index as usize).copied()),
+        Ok(journal) => Ok(event_at(&journal, index)),
         Err(_) => Ok(None),
     }
+}
+
+/// The event of this index of a journal, if it has so many.
+fn event_at(journal: &Journal, index: u64) -> Option<Event> {
+    let mut left = journal.events();
+    for _before in 0..index {
+        left.next()?;
+    }
+    left.next()
 }
 
 /// The bytes of a file, where it can be read and has no more than so many.

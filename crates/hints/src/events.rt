@@ -49,9 +49,12 @@ fn push_quantum(alloc: Global, text: &mut String, config: &Config) -> Result<(),
 /// The node that made the most events, the first of several, with their number.
 fn busiest(journal: &Journal) -> (NodeId, u64) {
     let mut counts = [0u64; 256];
-    for event in journal.events.iter() {
-        let node = event.node() as usize;
-        counts[node] = counts[node].saturating_add(1);
+    let mut left = journal.events();
+    for _event in 0..journal.count() {
+        if let Some(event) = left.next() {
+            let node = event.node() as usize;
+            counts[node] = counts[node].saturating_add(1);
+        }
     }
     let mut most = 0u64;
     let mut busiest = 0u8;

@@ -44,8 +44,12 @@ pub(crate) fn waits_of(
 ) -> Result<Vec<Waits>, NoMemory> {
     let mut core = Core::start(alloc, world)?;
     let mut flat = Flat::start(alloc, world)?;
-    for event in journal.events.iter() {
-        match core.apply(alloc, world, *event) {
+    let mut left = journal.events();
+    for _event in 0..journal.count() {
+        let Some(event) = left.next() else {
+            return Ok(Vec::new(alloc));
+        };
+        match core.apply(alloc, world, event) {
             Ok(Some(action)) => {
                 if flat.act(alloc, world, &action).is_err() {
                     return Ok(Vec::new(alloc));
