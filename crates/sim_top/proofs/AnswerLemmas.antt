@@ -7,7 +7,7 @@ use Rattle.sim_base.specs.declared.ends.End.TheVariants.{Exit, Trap as TrapEnd, 
 use Rattle.sim_outside.specs.Fault.{Rose, raised}
 use Rattle.event_journal.specs.declared.events.Event.{Event}
 use Rattle.sim_config.specs.declared.request.Request.{Request}
-use Rattle.sim_config.specs.Words.{meaning}
+use Rattle.sim_config.specs.Request.{meaning}
 use Rattle.sim_top.specs.declared.outcomes.Outcome.{Outcome}
 use Rattle.sim_top.specs.declared.outcomes.Outcome.TheVariants.{Done, Written, Trap, Deadlock, Budget, Stuck, Usage, BadConfig, BadImage, BadJournal, ReadFault, WriteFault, NoMemory}
 use Rattle.sim_top.specs.Stage.{Reads}

@@ -12,7 +12,7 @@ use Rattle.sim_top.specs.declared.outcomes.JournalFault.{JournalFault}
 use Rattle.event_journal.specs.declared.events.Event.{Event}
 use Rattle.sim_config.specs.declared.request.Request.{Request}
 use Rattle.sim_config.specs.Request.{workload_name}
-use Rattle.sim_config.specs.Words.{meaning}
+use Rattle.sim_config.specs.Request.{meaning}
 use Rattle.sim_top.specs.declared.outcomes.Outcome.{Outcome}
 use Rattle.sim_top.specs.declared.outcomes.Outcome.TheVariants.{Done, Written, Trap, Deadlock, Budget, Stuck, Usage, BadConfig, BadImage, BadJournal, ReadFault, WriteFault, NoMemory}
 use Rattle.sim_top.specs.Stage.{Reads}
