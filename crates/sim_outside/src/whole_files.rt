@@ -20,7 +20,7 @@ pub trait Files {
 
     /// Reads the whole file into `into`, which begins empty, if it has at most `limit` bytes.
     ///
-    /// `Failed` comes only with one more fault of that name; `into` then holds bytes of no meaning. A
+    /// `Failed` comes only with one more fault of that name, counted once; `into` then holds bytes of no meaning. A
     /// name that isn't there is such a fault. `TooLong` leaves more than `limit` bytes in `into`, which
     /// begin the file. `NoMemory` leaves `into` empty. With any answer but `Failed` each name has as
     /// many faults as before. No name holds anything else afterwards, and no fault of writing is

@@ -161,7 +161,7 @@ IsRun r request v =
 -- the file of a workload
 abbrev pub IsWritten : Request → Verdict → Type 0
 IsWritten request v =
-    (v.outcome ≡ Written) × (v.journal ≡ []) × (name : List ℕ) × (workload_name request ≡ Some name) × (bytes : List ℕ) × (v.files ≡ files_of (name ∷ []) bytes)
+    (v.outcome ≡ Written) × (v.journal ≡ []) × (v.text ≡ []) × (name : List ℕ) × (workload_name request ≡ Some name) × (bytes : List ℕ) × (v.files ≡ files_of (name ∷ []) bytes)
 
 same_run : (w : Setup) (IsAsked : List Event → Type 0) (v : Verdict) → HasRun w IsAsked [] v → HasRun w (λ journal. journal ≡ v.journal) [] v
 same_run w IsAsked v has = record {
@@ -229,7 +229,7 @@ module _ (request : Request) (r : Reads) where
   gen_ok out named v (inl (o, ends, never)) = absurd (cc (never))
   gen_ok out named v (inr (program, between, has, (well, is))) =
       let same : v ≡ record (without_run Written) { files = files_of (option_to_list (workload_name request)) (file_of program) } = cc in
-      (ap (λ u. u.outcome) same, ap (λ u. u.journal) same, out, named, file_of program, ap (λ u. u.files) same ∙ ap (λ name. files_of (option_to_list name) (file_of program)) named)
+      (ap (λ u. u.outcome) same, ap (λ u. u.journal) same, ap (λ u. u.text) same, out, named, file_of program, ap (λ u. u.files) same ∙ ap (λ name. files_of (option_to_list name) (file_of program)) named)
 
   pub gen_err : image_name request ≡ None → (o : Outcome) → gen request r (Err o) → ⊥
   unfolding gen

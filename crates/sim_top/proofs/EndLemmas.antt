@@ -99,7 +99,7 @@ module _ (request : Request) (r : Reads) (well : IsToldWell r) where
         let same : ends.w ≡ w = same_machine ends.w w ends.accepted has in
         let ended : end_of w (state_after w v.journal) ≡ Some end = subst (λ u. end_of u (state_after u v.journal) ≡ Some end) same ends.ended in
         ran.outcome_is ∙ ap outcome_of (same_Some ran.end end (sym ran.ended ∙ ended))
-    end_by (inr (is, empty, name, named, bytes, files)) = absurd (not_written v.journal end ends name named ends.asked)
+    end_by (inr (is, empty, silent, name, named, bytes, files)) = absurd (not_written v.journal end ends name named ends.asked)
 
     pub end_due : ComesTo (stages (Some request)) r v → v.outcome ≡ outcome_of end
     end_due (inl is) = end_by (request_ok request r v is)

@@ -15,3 +15,4 @@ pub mod LawLemmas
 pub mod EndLemmas
 pub mod AnswerLemmas
 pub mod CompleteLemmas
+pub mod PrintedLemmas

@@ -58,7 +58,7 @@ cause_why request r v _ is = is
 ok_why : (request : Request) (r : Reads) (v : Verdict) → IsRun r request v ⊎ IsWritten request v → Why request r v v.outcome
 ok_why request r v (inl (w, has, is_asked, ran, files)) =
     subst (Why request r v) (sym ran.outcome_is) (end_why request r v ran.end (record { w = w; accepted = has; asked = is_asked; run = ran.run; ended = ran.ended }))
-ok_why request r v (inr (is, empty, name, named, bytes, files)) = subst (Why request r v) (sym is) (name, named)
+ok_why request r v (inr (is, empty, silent, name, named, bytes, files)) = subst (Why request r v) (sym is) (name, named)
 
 comes_why : (request : Request) (r : Reads) (v : Verdict) → ComesTo (stages (Some request)) r v → Why request r v v.outcome
 comes_why request r v (inl is) = ok_why request r v (request_ok request r v is)
@@ -161,7 +161,7 @@ ok_writes : (request : Request) (r : Reads) (v : Verdict) (count : ℕ) (file : 
     → Contains (written_names request) file.name
 ok_writes request r v count file here (inl (w, has, is_asked, ran, files)) =
     journal_is_written request file.name (one_name (journal_name request) _ count file (subst (λ fs. slice_get fs count ≡ Some file) files here))
-ok_writes request r v count file here (inr (is, empty, name, named, bytes, files)) =
+ok_writes request r v count file here (inr (is, empty, silent, name, named, bytes, files)) =
     workload_is_written request file.name (named ∙ one_name (Some name) bytes count file (subst (λ fs. slice_get fs count ≡ Some file) files here))
 
 writes_by : (words : List (List ℕ)) (meant : Option Request) (r : Reads) (v : Verdict) (count : ℕ) (file : FileToWrite) → slice_get v.files count ≡ Some file → meaning words ≡ meant

@@ -9,6 +9,7 @@ pub mod Asked
 pub mod Commands
 pub mod Answer
 pub mod Causes
+pub mod Clauses
 pub mod Inner
 pub use Rattle.workload_gen.specs.Workload
 pub use Rattle.sim_config.specs.Words

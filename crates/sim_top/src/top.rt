@@ -3,6 +3,7 @@ ghost use Rattle.std.specs.Prelude.{◌≡◌, []};
 ghost use Rattle.sim_top.specs.Stage.{reads};
 ghost use Rattle.sim_top.specs.Answer.{Answers, stream, writes};
 ghost use Rattle.sim_top.specs.Causes.{HasCause, IsCoherentRun};
+ghost use Rattle.sim_top.specs.Clauses.{IsPrinted};
 ghost use Rattle.sim_top.specs.Inner.{Stores, WritesAll};
 ghost use Rattle.sim_top.specs.Text.{status_of};
 
@@ -34,6 +35,10 @@ pub fn execute_alone<F: Files, S: Sink>(
         (reads (F.holds files.old) (F.read_faults files.old) (F.read_faults files.new))
         (stream (S.faults out.old) (S.faults out.new) (S.taken out.old) (S.taken out.new))
         (writes (F.holds files.old) (F.holds files.new) (F.write_faults files.old) (F.write_faults files.new))
+        result.outcome result.journal }
+    ensures printed { IsPrinted words.now
+        (reads (F.holds files.old) (F.read_faults files.old) (F.read_faults files.new))
+        (stream (S.faults out.old) (S.faults out.new) (S.taken out.old) (S.taken out.new))
         result.outcome result.journal }
     ensures coherent { IsCoherentRun words.now
         (reads (F.holds files.old) (F.read_faults files.old) (F.read_faults files.new))
