@@ -6,7 +6,7 @@ use Rattle.std.specs.List.{list_all}
 use Rattle.clock_policy.specs.declared.members.Member.{Member}
 use Rattle.clock_policy.specs.Members.{unreached, with_member, standing, has_reached}
 use Rattle.clock_policy.specs.Epoch.{is_raised}
-use Rattle.clock_policy.specs.Place.{place_of, is_at}
+use Rattle.clock_policy.specs.Inner.{member_place, is_at}
 
 -- the epoch is raised where somebody is active and all have reached
 is_raised-cond : (b : Bool) (ms : List Member) (m : Member) → list_all has_reached (m ∷ ms) ≡ b → is_raised (standing (m ∷ ms)) ≡ b
@@ -52,20 +52,20 @@ put_past thread p m ms past h =
     let lower : ltb thread m.thread ≡ false = grind (arith, nat_tests) in
     rw (one, lower, h) (cond-cons (is_at thread (slice_get ms p)) m ms (insert ms p (unreached thread)))
 
-with_member-put : (thread : ℕ) (ms : List Member) → with_member thread ms ≡ put thread ms (place_of thread ms)
+with_member-put : (thread : ℕ) (ms : List Member) → with_member thread ms ≡ put thread ms (member_place thread ms)
 unfolding put
 with_member-put thread [] = refl
 with_member-put thread (m ∷ ms) = ⊎_elim
     (λ (here : leb thread m.thread ≡ true). rw here (put_here thread m ms here))
     (λ (past : leb thread m.thread ≡ false).
-    let next : 1 + place_of thread ms ≡ suc (place_of thread ms) = omega arith in
-    rw (past, next) (put_past thread (place_of thread ms) m ms past (with_member-put thread ms)))
+    let next : 1 + member_place thread ms ≡ suc (member_place thread ms) = omega arith in
+    rw (past, next) (put_past thread (member_place thread ms) m ms past (with_member-put thread ms)))
     (cases_Bool (leb thread m.thread))
 
-pub with_member_there : (thread place : ℕ) (ms : List Member) → place ≡ place_of thread ms → is_at thread (slice_get ms place) ≡ true → with_member thread ms ≡ ms
+pub with_member_there : (thread place : ℕ) (ms : List Member) → place ≡ member_place thread ms → is_at thread (slice_get ms place) ≡ true → with_member thread ms ≡ ms
 unfolding put
 with_member_there thread place ms e there = with_member-put thread ms ∙ rw (sym e, there) refl
 
-pub with_member_new : (thread place : ℕ) (ms : List Member) → place ≡ place_of thread ms → is_at thread (slice_get ms place) ≡ false → with_member thread ms ≡ insert ms place (unreached thread)
+pub with_member_new : (thread place : ℕ) (ms : List Member) → place ≡ member_place thread ms → is_at thread (slice_get ms place) ≡ false → with_member thread ms ≡ insert ms place (unreached thread)
 unfolding put
 with_member_new thread place ms e new = with_member-put thread ms ∙ rw (sym e, new) refl

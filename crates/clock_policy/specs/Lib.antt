@@ -2,8 +2,8 @@
 
 pub mod Members
 pub mod Epoch
-pub mod Place
 pub mod Probe
+pub mod Inner
 pub use Rattle.sim_base.specs.Saturated
 pub use Rattle.rand_pcg.specs.Lcg
 pub use Rattle.rand_pcg.specs.Pcg

@@ -5,8 +5,8 @@ use Rattle.rand_pcg.specs.Pcg.{pcg32, multiplier_64}
 use Rattle.sim_base.specs.declared.settings.Config.{Config}
 
 -- a tile may go on where the other one isn't running, where it is at most so far ahead of it, or at the eighth reply
-abbrev pub may_go : ℕ → ℕ → Bool → ℕ → ℕ → Bool
-may_go own partner running slack replies = not running || (nat_le own (partner + slack) || nat_le 8 replies)
+abbrev pub may_go_on : ℕ → ℕ → Bool → ℕ → ℕ → Bool
+may_go_on own partner running slack replies = not running || (nat_le own (partner + slack) || nat_le 8 replies)
 
 -- of so many tiles, the one that a tile asks at a word of its stream: any but itself
 abbrev pub other_tile : ℕ → ℕ → ℕ

@@ -5,7 +5,7 @@ ghost use Rattle.std.specs.Vec.{vec_capacity};
 ghost use Rattle.std.specs.List.{filter_map, list_all};
 ghost use Rattle.sim_base.specs.Saturated.{saturated};
 ghost use Rattle.clock_policy.specs.Members.{with_member, without_member, reported, renewed, has_reached, standing};
-ghost use Rattle.clock_policy.specs.Place.{place_of, is_at};
+ghost use Rattle.clock_policy.specs.Inner.{member_place, is_at};
 ghost use Rattle.clock_policy.specs.Epoch.{start_epoch, limit_of, next_epoch, limit_sent, is_raised, advanced_by, announced_by, Advances};
 
 use crate::members::Member;
@@ -24,7 +24,7 @@ pub struct Epochs {
 }
 
 impl Model for Epochs {
-    ghost use Rattle.clock_policy.specs.Place.{place_of, is_at};
+    ghost use Rattle.clock_policy.specs.Inner.{member_place, is_at};
     ghost use Rattle.clock_policy.specs.Epoch.{Epoch};
 
     ghost Value = { Epoch };
@@ -153,7 +153,7 @@ fn enter(members: &mut Vec<Member>, thread: u32) -> Result<(), NoMemory>
     ensures ok { OnOk result (members.new.items ≡ with_member thread members.old.items) }
     ensures err { OnErr result (members.new.items ≡ members.old.items) }
 {
-    let place = place_of(members, thread);
+    let place = member_place(members, thread);
     if !is_at(members, place, thread) {
         members.insert(place, Member::unreached(thread))?;
     }
@@ -161,8 +161,8 @@ fn enter(members: &mut Vec<Member>, thread: u32) -> Result<(), NoMemory>
 }
 
 /// The place of a thread among members in ascending order: its own, or the one where it would stand.
-fn place_of(members: &[Member], thread: u32) -> usize
-    ensures place { result ≡ place_of thread members.now }
+fn member_place(members: &[Member], thread: u32) -> usize
+    ensures place { result ≡ member_place thread members.now }
     ensures in_range { result ≤ length members.now }
 {
     let place = members.iter().position(|m| thread <= m.thread);

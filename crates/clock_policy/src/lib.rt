@@ -8,4 +8,4 @@ mod probes;
 
 pub use epochs::Epochs;
 pub use members::Member;
-pub use probes::{Probes, may_go};
+pub use probes::{Probes, may_go_on};

@@ -2,7 +2,7 @@
 
 ghost use Rattle.std.specs.Prelude.{◌≡◌, ◌≢◌, ◌<◌};
 ghost use Rattle.sim_base.specs.Settings.{IsChecked};
-ghost use Rattle.clock_policy.specs.Probe.{may_go, start_stream, partner_of, after_draw};
+ghost use Rattle.clock_policy.specs.Probe.{may_go_on, start_stream, partner_of, after_draw};
 
 use rand_core::utils::NextWord;
 use rand_pcg::Lcg64Xsh32;
@@ -14,8 +14,8 @@ const MOST_REPLIES: u8 = 8;
 
 /// Whether a tile that asked another one's clock may go on, by the reply: where the other one isn't running, where the
 /// own clock is at most `slack` cycles ahead of the other's, or where this is the eighth reply, counted from 1.
-pub fn may_go(own: u64, partner: u64, running: bool, slack: u64, replies: u8) -> bool
-    ensures { result ≡ may_go own partner running slack replies }
+pub fn may_go_on(own: u64, partner: u64, running: bool, slack: u64, replies: u8) -> bool
+    ensures { result ≡ may_go_on own partner running slack replies }
 {
     !running || own.saturating_sub(partner) <= slack || MOST_REPLIES <= replies
 }

@@ -28,7 +28,7 @@ use Rattle.tile_cache.specs.declared.ways.Hold.{Hold}
 use Rattle.tile_cache.specs.declared.ways.Hold.TheVariants.{S, M}
 use Rattle.tile_cache.specs.declared.ways.Way.{Way}
 use Rattle.tile_cache.specs.Cache.{way_of, content_of, victim_of}
-use Rattle.clock_policy.specs.Probe.{may_go}
+use Rattle.clock_policy.specs.Probe.{may_go_on}
 use Rattle.tile_node.specs.Tile.{Tile, Act, up_message, access_want, suits, is_only_read}
 use Rattle.tile_node.specs.Step.{is_writing, waits_for_limit, looks_around, reads_byte_by, writes, accesses_by, follows, tile_step}
 use Rattle.tile_node.specs.Deliver.{home_does, put_home, victim_mail, hold_suits, data_taken, fetch_by, return_taken, start_taken, limit_taken, reply_taken, taken, tile_delivered}
@@ -141,7 +141,7 @@ limit_silent K t limit _ = no_mail K
 
 reply_silent : (K : TrapFact) (w : Setup) (t : Tile) (running : Bool) (clock : ℕ) (status : Status) → All (Mails K) (reply_taken w t running clock status).mail
 reply_silent K w t running clock (Probing writing partner replies) =
-    silent_if K (may_go t.core.clock clock running w.config.slack (replies + 1)) _ _ (no_mail K) (one_mail K partner Probe tt)
+    silent_if K (may_go_on t.core.clock clock running w.config.slack (replies + 1)) _ _ (no_mail K) (one_mail K partner Probe tt)
 reply_silent K w t running clock _ = no_mail K
 
 taken_silent : (K : TrapFact) (w : Setup) (t : Tile) (from : ℕ) (msg : Msg) → All (Mails K) (taken w t from msg).mail

@@ -9,7 +9,8 @@ use sim_base::{NoMemory, NodeId};
 use std::alloc::Global;
 use wire_msg::{Msg, Out};
 
-/// The machine of a world: what event_journal's runs are runs of.
+/// The machine of a world: what event_journal's runs are runs of. Its methods wait for runs on several threads; nothing calls
+/// them yet.
 #[derive(Drop)]
 pub struct TileMachine<'w> {
     world: &'w World,

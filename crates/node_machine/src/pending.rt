@@ -70,7 +70,7 @@ impl Inbox {
     pub(crate) fn first(&self, from: NodeId) -> Option<&Msg>
         ensures { option_copied result ≡ first_of (queue_from self.now from) }
     {
-        let place = place_of(&self.mail, from)?;
+        let place = first_place(&self.mail, from)?;
         Some(&self.mail[place].msg)
     }
 
@@ -80,7 +80,7 @@ impl Inbox {
         ensures message { result ≡ first_of (queue_from self.old from) }
         ensures rest { self.new ≡ with_queue_from self.old from (rest_of (queue_from self.old from)) }
     {
-        let place = place_of(&self.mail, from)?;
+        let place = first_place(&self.mail, from)?;
         leave_unless(&mut self.senders, &self.mail[place + 1..], from);
         take_at(&mut self.mail, place)
     }
@@ -90,7 +90,7 @@ impl Inbox {
     pub(crate) fn discard(&mut self, from: NodeId)
         ensures { self.new ≡ with_queue_from self.old from (rest_of (queue_from self.old from)) }
     {
-        match place_of(&self.mail, from) {
+        match first_place(&self.mail, from) {
             Some(place) => {
                 leave_unless(&mut self.senders, &self.mail[place + 1..], from);
                 drop_at(&mut self.mail, place);
@@ -127,17 +127,14 @@ pub(crate) struct Pending {
 }
 
 impl Model for Pending {
-    ghost use Rattle.std.specs.Prelude.{◌≡◌, [], length};
-    ghost use Rattle.node_machine.specs.Pending.{PendingData, acting_in};
+    ghost use Rattle.node_machine.specs.Pending.{PendingData};
+    ghost use Rattle.node_machine.specs.Mailbox.{IsNoted};
 
     ghost Value = { PendingData };
 
     ghost view = { λ p. record { inboxes = p.inboxes.items; steps = p.steps.items } };
 
-    ghost invariant = { λ p.
-        (p.acting ≡ acting_in (record { inboxes = p.inboxes.items; steps = p.steps.items }))
-        × (length p.steps.items ≡ length p.inboxes.items)
-        × (p.no_senders ≡ []) };
+    ghost invariant = { λ p. IsNoted (record { inboxes = p.inboxes.items; steps = p.steps.items }) p.acting p.no_senders };
 }
 
 impl Pending {
@@ -284,7 +281,7 @@ impl Pending {
 
 /// The place of a sender's first message.
 #[inline]
-fn place_of(mail: &[Mail], from: NodeId) -> Option<usize>
+fn first_place(mail: &[Mail], from: NodeId) -> Option<usize>
     ensures { result ≡ position (is_from from) mail.now }
 {
     mail.iter().position(|one| one.from == from)
@@ -295,7 +292,7 @@ fn place_of(mail: &[Mail], from: NodeId) -> Option<usize>
 fn leave_unless(senders: &mut NodeSet, mail: &[Mail], from: NodeId)
     ensures { senders.new ≡ (if is_some (position (is_from from) mail.now) then senders.old else without from senders.old) }
 {
-    if place_of(mail, from).is_none() {
+    if first_place(mail, from).is_none() {
         senders.remove(from);
     }
 }

@@ -1,6 +1,6 @@
 //! Cases of epochs and probes: when a limit rises, and whom a tile asks.
 
-use clock_policy::{Epochs, Probes, may_go};
+use clock_policy::{Epochs, Probes, may_go_on};
 use sim_base::{Config, NoMemory, NodeId};
 use std::alloc::Global;
 use wire_msg::{Msg, Out};
@@ -101,7 +101,7 @@ fn a_tile_may_go_on(rt: HostRuntime) {
         ("far behind", 50, u64::MAX, true, 1, true),
     ];
     for (name, own, partner, running, replies, wanted) in rows {
-        let is_wanted = may_go(own, partner, running, 10, replies) == wanted;
+        let is_wanted = may_go_on(own, partner, running, 10, replies) == wanted;
         assert!(rt; is_wanted, "{name}");
     }
 }

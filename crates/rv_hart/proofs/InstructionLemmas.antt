@@ -8,7 +8,8 @@ use Rattle.rv_exec.specs.Access.{Asked}
 use Rattle.rv_hart.specs.declared.reservations.Span.{Span}
 use Rattle.rv_hart.specs.declared.steps.Step.TheVariants.{Access}
 use Rattle.rv_hart.specs.Reservation.{lacks_reservation}
-use Rattle.rv_hart.specs.Step.{is_granted, is_allowed, access_step, next_step, word_step, row_step, instruction_step}
+use Rattle.rv_hart.specs.Inner.{is_allowed}
+use Rattle.rv_hart.specs.Step.{is_granted, access_step, next_step, word_step, row_step, instruction_step}
 
 -- whichever way the look-up went
 row_found : (w : Setup) (regs : List ℕ) (pc : ℕ) (r : Option Span) (thread : ℕ) (i : Instr) (b : Bool) (fetched : Option ℕ)

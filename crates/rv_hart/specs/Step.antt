@@ -1,7 +1,7 @@
 -- What a hart does next: its next instruction, up to the memory that it works on. From the RISC-V ISA manual, RV64IMA;
 -- who may access what, and what calls do, is this simulator's own. The flat machine and the tiles both take their
 -- steps from here.
-use Rattle.std.specs.Prelude.{ℕ, ◌<◌, ◌≤◌, ◌≡◌, ◌&&◌, Bool, true, not, List, Option, Some, None, if◌then◌else◌}
+use Rattle.std.specs.Prelude.{ℕ, Bool, not, List, Option, Some, None, if◌then◌else◌}
 use Rattle.sim_base.specs.declared.kinds.CostClass.{CostClass}
 use Rattle.sim_base.specs.declared.ends.Cause.{Cause}
 use Rattle.sim_base.specs.declared.ends.Cause.TheVariants.{InstrAccess, Illegal, LoadAccess, StoreAccess}
@@ -11,7 +11,7 @@ use Rattle.rv_exec.specs.declared.meaning.Meaning.{Meaning}
 use Rattle.rv_exec.specs.declared.meaning.Meaning.TheVariants.{Next as NextMeaning, Access as AccessMeaning, Call as CallMeaning, Trap as TrapMeaning}
 use Rattle.rv_exec.specs.declared.access.AccessOp.{AccessOp}
 use Rattle.rv_exec.specs.declared.access.AccessOp.TheVariants.{Load, Store, Lr, Sc, Amo}
-use Rattle.rv_exec.specs.Access.{Asked, IsAccess}
+use Rattle.rv_exec.specs.Access.{Asked}
 use Rattle.rv_exec.specs.Class.{class_of}
 use Rattle.rv_exec.specs.Effect.{effect_of}
 use Rattle.elf_image.specs.Layout.{Setup, fetch, may}
@@ -21,7 +21,7 @@ use Rattle.rv_hart.specs.declared.reservations.Span.{Span}
 use Rattle.rv_hart.specs.Reservation.{lacks_reservation}
 use Rattle.rv_hart.specs.Call.{call_step}
 use Rattle.rv_hart.specs.declared.steps.Step.{Step}
-use Rattle.rv_hart.specs.declared.steps.Step.TheVariants.{Next, Access, ScFails, Write, Trap}
+use Rattle.rv_hart.specs.declared.steps.Step.TheVariants.{Next, Access, ScFails, Trap}
 
 -- the right that an access needs of its bytes, and the trap where it isn't there
 abbrev pub right_of : AccessOp → Right
@@ -39,10 +39,6 @@ access_fault _ = StoreAccess
 -- whether each byte of an access has the right that it needs
 abbrev pub is_granted : Setup → Asked → Bool
 is_granted w access = may w access.addr access.size (right_of access.op)
-
--- whether an access is made as it is asked for: its bytes have the right, and a store-conditional has its reservation
-abbrev pub is_allowed : Setup → Option Span → Asked → Bool
-is_allowed w reservation access = is_granted w access && not (lacks_reservation reservation access)
 
 -- an access: its bytes' rights are tested first, then a store-conditional's reservation
 abbrev pub access_step : Setup → Option Span → Asked → Step
@@ -75,12 +71,3 @@ word_step w regs pc reservation thread (Some word) = row_step w regs pc reservat
 -- runs: the word at the pc is fetched, then decoded, and then the instruction has its effect
 abbrev pub next_step : Setup → List ℕ → ℕ → Option Span → ℕ → Step
 next_step w regs pc reservation thread = word_step w regs pc reservation thread (fetch w pc)
-
--- what is known of every step: registers have numbers below 32, an access is one of the manual's and its bytes have
--- the right, and a write moves 1 to 4096 bytes
-abbrev pub IsStep : Setup → Step → Type 0
-IsStep w (Next class rd value pc) = rd < 32
-IsStep w (Access access) = IsAccess access × (is_granted w access ≡ true)
-IsStep w (ScFails rd) = rd < 32
-IsStep w (Write addr len) = (0 < len) × (len ≤ 4096)
-IsStep w _ = Unit {0}

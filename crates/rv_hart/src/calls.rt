@@ -2,7 +2,7 @@
 
 ghost use Rattle.std.specs.Prelude.{◌≡◌, ◌-◌, ◌*◌, ◌/◌, ◌%◌, ◌^◌};
 ghost use Rattle.rv_hart.specs.Call.{call_step, write_call, futex_call, without_bit_7};
-ghost use Rattle.rv_hart.specs.Step.{IsStep};
+ghost use Rattle.rv_hart.specs.Inner.{IsStep};
 
 use crate::registers::{A0, A1, A2, A3, A7};
 use crate::steps::Step;

@@ -2,7 +2,8 @@
 
 ghost use Rattle.std.specs.Prelude.{◌≡◌};
 ghost use Rattle.rv_decode.specs.Valid.{IsValid};
-ghost use Rattle.rv_hart.specs.Step.{next_step, instruction_step, access_step, is_allowed, right_of, access_fault, is_granted, IsStep};
+ghost use Rattle.rv_hart.specs.Step.{next_step, instruction_step, access_step, right_of, access_fault, is_granted};
+ghost use Rattle.rv_hart.specs.Inner.{is_allowed, IsStep};
 
 use crate::calls::call_step;
 use crate::reservations::{Span, lacks_reservation};

@@ -3,6 +3,7 @@
 pub mod Gathering
 pub mod Core
 pub mod Plan
+pub mod Inner
 pub use Rattle.rv_hart.specs.Step
 pub use Rattle.rv_hart.specs.Start
 pub use Rattle.rv_hart.specs.Reservation

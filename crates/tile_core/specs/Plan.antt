@@ -1,12 +1,11 @@
 -- What a core's next instruction asks of its tile. This simulator's own; the step itself is the one of every hart.
-use Rattle.std.specs.Prelude.{ℕ, ◌<◌, ◌≤◌, ◌≡◌, true, false}
+use Rattle.std.specs.Prelude.{ℕ, true, false}
 use Rattle.sim_base.specs.declared.kinds.CostClass.TheVariants.{Call as CallClass}
 use Rattle.elf_image.specs.Layout.{Setup}
 use Rattle.mesh_model.specs.Cost.{cost_of}
 use Rattle.rv_hart.specs.declared.steps.Step.{Step}
 use Rattle.rv_hart.specs.declared.steps.Step.TheVariants.{Next, Access as AccessStep, ScFails as ScFailsStep, Answer, Ask, Write as WriteStep, Exit as ExitStep, Trap as TrapStep}
-use Rattle.rv_hart.specs.Step.{next_step, is_granted}
-use Rattle.rv_exec.specs.Access.{IsAccess}
+use Rattle.rv_hart.specs.Step.{next_step}
 use Rattle.rv_hart.specs.Start.{next_pc}
 use Rattle.tile_core.specs.declared.cores.TileCore.{TileCore}
 use Rattle.tile_core.specs.declared.plans.Plan.{Plan}
@@ -26,12 +25,3 @@ plan_by w pc (TrapStep cause) = Trap cause
 -- the plan of the next instruction of the thread that runs
 abbrev pub plan_of : Setup → TileCore → Plan
 plan_of w core = plan_by w core.pc (next_step w core.regs core.pc core.reservation core.thread)
-
--- what is known of every plan: registers have numbers below 32, an access is one of the manual's and its bytes have the
--- right, and a write moves 1 to 4096 bytes
-abbrev pub IsPlan : Setup → Plan → Type 0
-IsPlan w (Local rd value pc cost answered) = rd < 32
-IsPlan w (Access access) = IsAccess access × (is_granted w access ≡ true)
-IsPlan w (ScFails rd) = rd < 32
-IsPlan w (Write addr len) = (0 < len) × (len ≤ 4096)
-IsPlan w _ = Unit {0}

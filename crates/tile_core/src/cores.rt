@@ -137,7 +137,8 @@ pub struct TileCore {
 
 impl TileCore {
     ghost use Rattle.tile_core.specs.Core.{idle_core, begun};
-    ghost use Rattle.tile_core.specs.Plan.{plan_of, IsPlan};
+    ghost use Rattle.tile_core.specs.Plan.{plan_of};
+    ghost use Rattle.tile_core.specs.Inner.{IsPlan};
 
     /// A core on which no thread was yet. The memory for the bytes of writes is reserved here.
     pub fn new(alloc: Global) -> Result<TileCore, NoMemory>

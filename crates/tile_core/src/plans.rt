@@ -1,8 +1,9 @@
 //! What a core's next instruction asks of its tile.
 
 ghost use Rattle.std.specs.Prelude.{◌≡◌};
-ghost use Rattle.rv_hart.specs.Step.{IsStep};
-ghost use Rattle.tile_core.specs.Plan.{plan_by, IsPlan};
+ghost use Rattle.rv_hart.specs.Inner.{IsStep};
+ghost use Rattle.tile_core.specs.Plan.{plan_by};
+ghost use Rattle.tile_core.specs.Inner.{IsPlan};
 
 use elf_image::World;
 use rv_exec::Access;

@@ -21,7 +21,7 @@ use Rattle.tile_cache.specs.declared.ways.Hold.{Hold}
 use Rattle.tile_cache.specs.declared.ways.Hold.TheVariants.{S, M}
 use Rattle.tile_cache.specs.declared.ways.Way.{Way}
 use Rattle.tile_cache.specs.Cache.{way_of, victim_of}
-use Rattle.clock_policy.specs.Probe.{may_go}
+use Rattle.clock_policy.specs.Probe.{may_go_on}
 use Rattle.tile_node.specs.Tile.{Tile, first_core, start_tile, suits, is_only_read}
 use Rattle.tile_node.specs.Step.{is_writing, waits_for_limit, looks_around, probes, reads_byte_by, writes, accesses_by, follows, works, tile_step}
 use Rattle.tile_node.specs.Deliver.{hold_suits, miss_ends_for, data_taken, fetched_tile, inv_tile, fetch_by, return_taken, start_taken, onward, limit_taken, reply_taken, taken}
@@ -147,11 +147,11 @@ limit_fits : (w : Setup) (t : Tile) (limit : ℕ) (s : Status) → IsOf w t → 
 limit_fits w t limit (AtBarrier writing) h = record { number = h.number; home = h.home; tiles = h.tiles; stream = h.stream; waits = onward_waits writing t.core.write }
 limit_fits w t limit _ h = h
 
-fewer_replies : (own partner slack replies : ℕ) (running : Bool) → may_go own partner running slack (replies + 1) ≡ false → replies + 1 < 8
+fewer_replies : (own partner slack replies : ℕ) (running : Bool) → may_go_on own partner running slack (replies + 1) ≡ false → replies + 1 < 8
 fewer_replies own partner slack replies running e = grind (arith, nat_tests)
 
 reply_fits : (w : Setup) (t : Tile) (running : Bool) (clock : ℕ) (s : Status) → IsOf w t → IsOf w (reply_taken w t running clock s).tile
-reply_fits w t running clock (Probing writing partner replies) h = elim (cases_Bool (may_go t.core.clock clock running w.config.slack (replies + 1))) [
+reply_fits w t running clock (Probing writing partner replies) h = elim (cases_Bool (may_go_on t.core.clock clock running w.config.slack (replies + 1))) [
   | inl goes ↦ rw goes (record { number = h.number; home = h.home; tiles = h.tiles; stream = h.stream; waits = onward_waits writing t.core.write })
   | inr stays ↦ rw stays (record {
     number = h.number;

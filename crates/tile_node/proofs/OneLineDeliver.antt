@@ -22,7 +22,7 @@ use Rattle.tile_cache.specs.declared.ways.Way.{Way}
 use Rattle.tile_cache.specs.Cache.{Sets, IsCache, way_of, content_of, victim_of, without_line, placed}
 use Rattle.tile_cache.specs.Copy.{Copy, absent, shared, modified, held_as, copy_in, copy_of, as_shared}
 use Rattle.tile_cache.proofs.CopyLemmas.{front_shows, drop_shows, downgrade_shows, victim_is_another, victim_is_held}
-use Rattle.clock_policy.specs.Probe.{may_go}
+use Rattle.clock_policy.specs.Probe.{may_go_on}
 use Rattle.tile_node.specs.Tile.{Tile, Act, quiet, is_only_read}
 use Rattle.tile_node.specs.Deliver.{put_home, victim_tile, victim_mail, waiting_done, hold_suits, miss_ends_for, data_taken, inv_tile, told_to, fetched_tile, fetch_by, return_taken, start_taken, limit_taken, reply_taken, onward, taken}
 use Rattle.tile_node.specs.OneLine.{wants, wants_by, told_about, data_after, dropped_copy, fetched_copy, put_of, answer_of, nothing, came, evicted, invalidated, fetched, at_line, leaves_at, data_at, taken_at}
@@ -242,7 +242,7 @@ limit_shows t limit _ k is = leaves_lines t k _ refl refl refl
 reply_shows : (w : Setup) (t : Tile) (running : Bool) (clock : ℕ) (status : Status) (k : ℕ) → t.core.status ≡ status
     → Shows t k (reply_taken w t running clock status) nothing
 reply_shows w t running clock (Probing writing partner replies) k is =
-    shows_both (may_go t.core.clock clock running w.config.slack (replies + 1)) t k _ _ nothing
+    shows_both (may_go_on t.core.clock clock running w.config.slack (replies + 1)) t k _ _ nothing
     (leaves_lines t k _ refl refl (onward_wants t k writing ∙ sym (ap (wants_by t.core.write k) is)))
     (leaves_lines t k _ refl refl (sym (ap (wants_by t.core.write k) is)))
 reply_shows w t running clock _ k is = leaves_lines t k _ refl refl refl

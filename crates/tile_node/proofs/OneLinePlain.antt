@@ -26,7 +26,7 @@ use Rattle.tile_cache.specs.declared.ways.Hold.{Hold}
 use Rattle.tile_cache.specs.declared.ways.Hold.TheVariants.{S, M}
 use Rattle.tile_cache.specs.declared.ways.Way.{Way}
 use Rattle.tile_cache.specs.Cache.{Sets, IsCache, way_of, content_of, victim_of, touched, without_line, placed}
-use Rattle.clock_policy.specs.Probe.{may_go}
+use Rattle.clock_policy.specs.Probe.{may_go_on}
 use Rattle.dir_slice.specs.Directory.{Slice}
 use Rattle.tile_node.specs.Tile.{Tile, Act, quiet, up_message, to_home, suits, is_only_read}
 use Rattle.tile_node.specs.Step.{is_writing, waits_for_limit, looks_around, misses, reads_byte_by, writes, accesses_by, follows, tile_step}
@@ -259,7 +259,7 @@ limit_plain P t limit _ = quiet_plain P t
 
 reply_plain : (P : ℕ × Msg → Type 0) (asks : (node : ℕ) → P (node, Probe)) (w : Setup) (t : Tile) (running : Bool) (clock : ℕ) (status : Status) → Plain P t (reply_taken w t running clock status)
 reply_plain P asks w t running clock (Probing writing partner replies) =
-    plain_if P (may_go t.core.clock clock running w.config.slack (replies + 1)) t _ _ (still P t _ (λ h. h) refl refl) (sends P t _ _ _ (λ h. h) refl refl (asks partner) refl)
+    plain_if P (may_go_on t.core.clock clock running w.config.slack (replies + 1)) t _ _ (still P t _ (λ h. h) refl refl) (sends P t _ _ _ (λ h. h) refl refl (asks partner) refl)
 reply_plain P asks w t running clock _ = quiet_plain P t
 
 taken_plain : (w : Setup) (t : Tile) (from : ℕ) (msg : Msg) → up_of msg ≡ None → Plain (GoesRightly w from msg) t (taken w t from msg)

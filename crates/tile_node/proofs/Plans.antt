@@ -14,7 +14,8 @@ use Rattle.rv_exec.specs.declared.meaning.Meaning.TheVariants.{Next, Access as A
 use Rattle.rv_exec.specs.Access.{Asked}
 use Rattle.rv_exec.specs.Class.{class_of}
 use Rattle.rv_exec.specs.Effect.{effect_of}
-use Rattle.rv_hart.specs.Step.{is_allowed, meaning_step}
+use Rattle.rv_hart.specs.Inner.{is_allowed}
+use Rattle.rv_hart.specs.Step.{meaning_step}
 use Rattle.rv_hart.proofs.InstructionLemmas.{lent_step, allowed_step}
 use Rattle.tile_core.specs.declared.cores.TileCore.{TileCore}
 use Rattle.tile_core.specs.declared.plans.Plan.TheVariants.{Local, Access}

@@ -11,7 +11,7 @@ use Rattle.rv_exec.specs.declared.meaning.Meaning.{Meaning}
 use Rattle.rv_exec.specs.declared.meaning.Meaning.TheVariants.{Next, Access}
 use Rattle.rv_exec.specs.Access.{Asked}
 use Rattle.rv_exec.specs.Effect.{effect_of}
-use Rattle.rv_hart.specs.Step.{is_allowed}
+use Rattle.rv_hart.specs.Inner.{is_allowed}
 use Rattle.tile_cache.specs.declared.ways.Hold.{Hold}
 use Rattle.tile_cache.specs.Cache.{hold_of, is_m}
 use Rattle.tile_core.specs.declared.cores.TileCore.{TileCore}

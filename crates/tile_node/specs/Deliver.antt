@@ -23,7 +23,7 @@ use Rattle.tile_cache.specs.declared.ways.Hold.TheVariants.{S, M}
 use Rattle.tile_cache.specs.declared.ways.Way.{Way}
 use Rattle.tile_cache.specs.Cache.{Sets, way_of, content_of, victim_of, without_line, placed, downgraded}
 use Rattle.dir_slice.specs.Directory.{reaction, home_at, after_step, mail_of}
-use Rattle.clock_policy.specs.Probe.{may_go}
+use Rattle.clock_policy.specs.Probe.{may_go_on}
 use Rattle.tile_node.specs.Tile.{Tile, Act, quiet, up_message, to_home, with_status, without_reservation_on, suits, is_only_read, access_cost, with_access, with_byte_got}
 
 -- the home's role: what the line's home makes of what a node tells it
@@ -159,7 +159,7 @@ asks_again t writing partner replies = record (quiet (with_status t (Probing wri
 
 abbrev pub reply_taken : Setup → Tile → Bool → ℕ → Status → Act
 reply_taken w t running clock (Probing writing partner replies) =
-    if may_go t.core.clock clock running w.config.slack (replies + 1) then quiet (goes_on w t writing)
+    if may_go_on t.core.clock clock running w.config.slack (replies + 1) then quiet (goes_on w t writing)
     else asks_again t writing partner (replies + 1)
 reply_taken w t running clock _ = quiet t
 

@@ -12,7 +12,7 @@ ghost use Rattle.tile_node.specs.Inner.{Makes, MakesAlone};
 
 use crate::accesses::{access_cost, delayed, line_at, place_in_line, place_of, suits};
 use crate::tile::TileNode;
-use clock_policy::may_go;
+use clock_policy::may_go_on;
 use elf_image::World;
 use rv_exec::Access;
 use rv_hart::registers::A0;
@@ -304,7 +304,7 @@ impl TileNode {
         let config = world.config();
         let own = self.core.clock;
         let replies = replies + 1;
-        if may_go(own, clock, running, config.slack, replies) {
+        if may_go_on(own, clock, running, config.slack, replies) {
             self.core.status = onward(writing);
             self.core.next_check = own.saturating_add(config.interval);
             return Ok(None);

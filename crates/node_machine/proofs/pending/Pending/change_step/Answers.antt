@@ -9,8 +9,9 @@ pub invariant_of-self : goal.invariant_of-self
 invariant_of-self c =
     let inboxes = c.self.inside.inboxes.items in
     let steps = c.self.inside.steps.items in
-    let acting = acting_step inboxes steps c.note_step.new.steps.items c.args.node c.args.can c.can_act-acts.result c.self.invariant.1 c.note_step.ensures c.can_act-acts.ensures in (
-      c.put.ensures ∙ ap (λ nodes. if c.can_act-acts.result then with_node c.args.node nodes else without c.args.node nodes) c.self.invariant.0 ∙ acting,
-      ap length c.note_step.ensures ∙ length-set steps c.args.node c.args.can ∙ c.self.invariant.1,
-      c.self.invariant.2,
-    )
+    let acting = acting_step inboxes steps c.note_step.new.steps.items c.args.node c.args.can c.can_act-acts.result c.self.invariant.each_node c.note_step.ensures c.can_act-acts.ensures in
+    record {
+      acting = c.put.ensures ∙ ap (λ nodes. if c.can_act-acts.result then with_node c.args.node nodes else without c.args.node nodes) c.self.invariant.acting ∙ acting;
+      each_node = ap length c.note_step.ensures ∙ length-set steps c.args.node c.args.can ∙ c.self.invariant.each_node;
+      none = c.self.invariant.none;
+    }

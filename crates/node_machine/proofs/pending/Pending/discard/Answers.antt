@@ -10,11 +10,12 @@ invariant_of-self-then-not-can_act c =
     let inboxes = c.self.inside.inboxes.items in
     let steps = c.self.inside.steps.items in
     let inbox = c.discard.new.self in
-    let acting = acting_inbox inboxes steps c.args.to inbox false c.self.invariant.1 (sym c.if-not-can_act.true ∙ c.can_act.ensures) in (
-      c.remove.ensures.nodes ∙ ap (without c.args.to) c.self.invariant.0 ∙ acting,
-      c.self.invariant.1 ∙ sym (length-set inboxes c.args.to inbox),
-      c.self.invariant.2,
-    )
+    let acting = acting_inbox inboxes steps c.args.to inbox false c.self.invariant.each_node (sym c.if-not-can_act.true ∙ c.can_act.ensures) in
+    record {
+      acting = c.remove.ensures.nodes ∙ ap (without c.args.to) c.self.invariant.acting ∙ acting;
+      each_node = c.self.invariant.each_node ∙ sym (length-set inboxes c.args.to inbox);
+      none = c.self.invariant.none;
+    }
 
 pub invariant_of-self-else-not-can_act : goal.invariant_of-self-else-not-can_act
 invariant_of-self-else-not-can_act c =
@@ -24,8 +25,9 @@ invariant_of-self-else-not-can_act c =
     let within : c.args.to < length inboxes = c.in-Some.ensures.item.3.0 in
     let read = get_or_read inboxes c.args.to c.in-Some.inbox.now within c.in-Some.ensures.value [] in
     let now : can_act_in (record { inboxes = slice_set inboxes c.args.to inbox; steps = steps }) c.args.to ≡ true = sym c.can_act.ensures ∙ c.if-not-can_act.false in
-    let before = acted_before inboxes steps c.args.to c.args.from inbox within (c.discard.ensures ∙ ap (λ old. with_queue_from old c.args.from (rest_of (queue_from old c.args.from))) read) now in (
-      c.self.invariant.0 ∙ acting_kept inboxes steps c.args.to inbox (before ∙ sym now),
-      c.self.invariant.1 ∙ sym (length-set inboxes c.args.to inbox),
-      c.self.invariant.2,
-    )
+    let before = acted_before inboxes steps c.args.to c.args.from inbox within (c.discard.ensures ∙ ap (λ old. with_queue_from old c.args.from (rest_of (queue_from old c.args.from))) read) now in
+    record {
+      acting = c.self.invariant.acting ∙ acting_kept inboxes steps c.args.to inbox (before ∙ sym now);
+      each_node = c.self.invariant.each_node ∙ sym (length-set inboxes c.args.to inbox);
+      none = c.self.invariant.none;
+    }

@@ -14,8 +14,9 @@ invariant_of-self-2 c =
     let within = node_within inboxes c.args.to c.args.from sender in
     let read : c.index_mut.result.now ≡ inbox_of inboxes c.args.to = get_or_read inboxes c.args.to c.index_mut.result.now within c.index_mut.ensures.value [] in
     let acts = acts_pushed inboxes steps c.args.to c.args.from c.args.msg inbox within sender (c.in_ok-push.ensures.ok ∙ ap (λ old. with_queue_from old c.args.from (queue_from old c.args.from ++ c.args.msg ∷ [])) read) in
-    let acting = acting_inbox inboxes steps c.args.to inbox true c.self.invariant.1 acts in (
-      c.insert.ensures.nodes ∙ ap (with_node c.args.to) c.self.invariant.0 ∙ acting,
-      c.self.invariant.1 ∙ sym (length-set inboxes c.args.to inbox),
-      c.self.invariant.2,
-    )
+    let acting = acting_inbox inboxes steps c.args.to inbox true c.self.invariant.each_node acts in
+    record {
+      acting = c.insert.ensures.nodes ∙ ap (with_node c.args.to) c.self.invariant.acting ∙ acting;
+      each_node = c.self.invariant.each_node ∙ sym (length-set inboxes c.args.to inbox);
+      none = c.self.invariant.none;
+    }
