@@ -3,6 +3,7 @@
 #include <errno.h>
 #include <fcntl.h>
 #include <pthread.h>
+#include <semaphore.h>
 #include <signal.h>
 #include <stdio.h>
 #include <stdlib.h>
@@ -229,7 +230,18 @@ long sysconf(int name) {
     case _SC_NPROCESSORS_ONLN:
         return linked_threads;
     case _SC_PAGESIZE:
+    case _SC_THREAD_STACK_MIN:
         return 4096;
+    case _SC_THREAD_KEYS_MAX:
+        return PTHREAD_KEYS_MAX;
+    case _SC_THREAD_DESTRUCTOR_ITERATIONS:
+        return PTHREAD_DESTRUCTOR_ITERATIONS;
+    case _SC_THREAD_THREADS_MAX:
+        return 64;
+    case _SC_SEM_VALUE_MAX:
+        return SEM_VALUE_MAX;
+    case _SC_OPEN_MAX:
+        return MOST_OPEN;
     }
     return fail(EINVAL);
 }

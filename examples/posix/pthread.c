@@ -15,7 +15,7 @@ struct thread_descriptor {
     void *argument;
     void *result;
     _Atomic long number;
-    void **values; /* of its keys; none before the first is set */
+    struct key_value *values; /* of its keys; none before the first is set */
 };
 
 static struct thread_descriptor first;
@@ -26,10 +26,25 @@ void threads_begin(void) { self = &first; }
 
 pthread_t pthread_self(void) { return self; }
 
+static _Thread_local struct pthread_cleanup *cleanups; /* the last is the first to be done */
+
+void pthread_cleanup_begin(struct pthread_cleanup *cleanup) {
+    cleanup->before = cleanups;
+    cleanups = cleanup;
+}
+
+void pthread_cleanup_end(struct pthread_cleanup *cleanup, int is_run) {
+    cleanups = cleanup->before;
+    if (is_run)
+        cleanup->function(cleanup->argument);
+}
+
 static void destroy_values(void);
 
 _Noreturn void pthread_exit(void *result) {
     self->result = result;
+    while (cleanups != NULL)
+        pthread_cleanup_end(cleanups, true);
     destroy_values();
     output_flush();
     if (atomic_fetch_sub(&live, 1) == 1)
@@ -110,6 +125,39 @@ int pthread_attr_getdetachstate(const pthread_attr_t *attributes, int *state) {
     *state = PTHREAD_CREATE_JOINABLE;
     return 0;
 }
+
+int pthread_setcancelstate(int state, int *before) {
+    static _Thread_local int now = PTHREAD_CANCEL_ENABLE;
+    if (before != NULL)
+        *before = now;
+    now = state;
+    return 0;
+}
+
+int pthread_setcanceltype(int type, int *before) {
+    static _Thread_local int now = PTHREAD_CANCEL_DEFERRED;
+    if (before != NULL)
+        *before = now;
+    now = type;
+    return 0;
+}
+
+/* Attributes that say nothing here. */
+#define EMPTY_ATTRIBUTES(name) \
+    int pthread_##name##_init(pthread_##name##_t *attributes) { return (void)attributes, 0; } \
+    int pthread_##name##_destroy(pthread_##name##_t *attributes) { return (void)attributes, 0; }
+#define SHARED_ATTRIBUTE(name) \
+    int pthread_##name##_setpshared(pthread_##name##_t *attributes, int shared) { \
+        (void)attributes; \
+        return shared == PTHREAD_PROCESS_PRIVATE || shared == PTHREAD_PROCESS_SHARED ? 0 : EINVAL; \
+    }
+EMPTY_ATTRIBUTES(condattr)
+EMPTY_ATTRIBUTES(barrierattr)
+EMPTY_ATTRIBUTES(rwlockattr)
+SHARED_ATTRIBUTE(mutexattr)
+SHARED_ATTRIBUTE(condattr)
+SHARED_ATTRIBUTE(barrierattr)
+SHARED_ATTRIBUTE(rwlockattr)
 
 /* Mutexes ------------------------------------------------------------------------------------------------------ */
 
@@ -198,38 +246,42 @@ int pthread_mutexattr_gettype(const pthread_mutexattr_t *attributes, int *type) 
 int pthread_cond_init(pthread_cond_t *condition, const pthread_condattr_t *attributes) {
     (void)attributes;
     atomic_store(&condition->signals, 0);
+    atomic_store(&condition->waiting, 0);
     return 0;
 }
 
+/* A thread that was woken may still be on its way out: the memory may be used anew after all are. */
 int pthread_cond_destroy(pthread_cond_t *condition) {
-    (void)condition;
+    while (atomic_load(&condition->waiting) > 0)
+        thread_yield();
     return 0;
 }
 
 int pthread_cond_wait(pthread_cond_t *condition, pthread_mutex_t *mutex) {
+    atomic_fetch_add(&condition->waiting, 1);
     uint32_t signals = atomic_load(&condition->signals);
     uint32_t depth = mutex->depth;
     mutex->depth = 0;
     int error = pthread_mutex_unlock(mutex);
-    if (error != 0)
-        return mutex->depth = depth, error;
-    futex_wait(&condition->signals, signals);
-    pthread_mutex_lock(mutex);
+    if (error == 0)
+        futex_wait(&condition->signals, signals);
+    atomic_fetch_sub(&condition->waiting, 1);
+    if (error == 0)
+        pthread_mutex_lock(mutex);
     mutex->depth = depth;
+    return error;
+}
+
+/* A thread that isn't seen to wait sees the signal before it does. */
+static int signal_threads(pthread_cond_t *condition, uint32_t most) {
+    atomic_fetch_add(&condition->signals, 1);
+    if (atomic_load(&condition->waiting) > 0)
+        futex_wake(&condition->signals, most);
     return 0;
 }
 
-int pthread_cond_signal(pthread_cond_t *condition) {
-    atomic_fetch_add(&condition->signals, 1);
-    futex_wake(&condition->signals, 1);
-    return 0;
-}
-
-int pthread_cond_broadcast(pthread_cond_t *condition) {
-    atomic_fetch_add(&condition->signals, 1);
-    futex_wake(&condition->signals, WAKE_ALL);
-    return 0;
-}
+int pthread_cond_signal(pthread_cond_t *condition) { return signal_threads(condition, 1); }
+int pthread_cond_broadcast(pthread_cond_t *condition) { return signal_threads(condition, WAKE_ALL); }
 
 /* Barriers ------------------------------------------------------------------------------------------------------ */
 
@@ -274,17 +326,19 @@ int pthread_rwlock_init(pthread_rwlock_t *lock, const pthread_rwlockattr_t *attr
     return 0;
 }
 
-int pthread_rwlock_destroy(pthread_rwlock_t *lock) { return lock->readers || lock->has_writer ? EBUSY : 0; }
+int pthread_rwlock_destroy(pthread_rwlock_t *lock) { return lock->readers || lock->writer ? EBUSY : 0; }
 
 /* Takes the lock for reading; where it is taken, waits or answers EBUSY. */
 static int read_lock(pthread_rwlock_t *lock, bool waits) {
     int error = 0;
     pthread_mutex_lock(&lock->mutex);
-    while (waits && (lock->has_writer || lock->writers_waiting > 0))
+    if (waits && lock->writer == self)
+        error = EDEADLK;
+    while (error == 0 && waits && lock->writer != NULL)
         pthread_cond_wait(&lock->changed, &lock->mutex);
-    if (lock->has_writer || lock->writers_waiting > 0)
+    if (error == 0 && lock->writer != NULL)
         error = EBUSY;
-    else
+    if (error == 0)
         lock->readers++;
     pthread_mutex_unlock(&lock->mutex);
     return error;
@@ -294,14 +348,14 @@ static int read_lock(pthread_rwlock_t *lock, bool waits) {
 static int write_lock(pthread_rwlock_t *lock, bool waits) {
     int error = 0;
     pthread_mutex_lock(&lock->mutex);
-    lock->writers_waiting++;
-    while (waits && (lock->has_writer || lock->readers > 0))
+    if (waits && lock->writer == self)
+        error = EDEADLK;
+    while (error == 0 && waits && (lock->writer != NULL || lock->readers > 0))
         pthread_cond_wait(&lock->changed, &lock->mutex);
-    lock->writers_waiting--;
-    if (lock->has_writer || lock->readers > 0)
+    if (error == 0 && (lock->writer != NULL || lock->readers > 0))
         error = EBUSY;
-    else
-        lock->has_writer = 1;
+    if (error == 0)
+        lock->writer = self;
     pthread_mutex_unlock(&lock->mutex);
     return error;
 }
@@ -313,8 +367,8 @@ int pthread_rwlock_trywrlock(pthread_rwlock_t *lock) { return write_lock(lock, f
 
 int pthread_rwlock_unlock(pthread_rwlock_t *lock) {
     pthread_mutex_lock(&lock->mutex);
-    if (lock->has_writer)
-        lock->has_writer = 0;
+    if (lock->writer != NULL)
+        lock->writer = NULL;
     else
         lock->readers--;
     if (lock->readers == 0)
@@ -371,8 +425,15 @@ int pthread_once(pthread_once_t *once, void (*function)(void)) {
 static pthread_mutex_t keys_lock = PTHREAD_MUTEX_INITIALIZER;
 static struct {
     bool is_used;
+    unsigned made; /* how often the key was made: a value of an earlier one counts no more */
     void (*destructor)(void *);
 } keys[PTHREAD_KEYS_MAX];
+
+/* A thread's value, and of which making of the key it is. */
+struct key_value {
+    unsigned made;
+    void *value;
+};
 
 int pthread_key_create(pthread_key_t *key, void (*destructor)(void *)) {
     int error = EAGAIN;
@@ -380,6 +441,7 @@ int pthread_key_create(pthread_key_t *key, void (*destructor)(void *)) {
     for (unsigned i = 0; i < PTHREAD_KEYS_MAX && error != 0; i++)
         if (!keys[i].is_used) {
             keys[i].is_used = true;
+            keys[i].made++;
             keys[i].destructor = destructor;
             *key = i;
             error = 0;
@@ -388,26 +450,30 @@ int pthread_key_create(pthread_key_t *key, void (*destructor)(void *)) {
     return error;
 }
 
+static bool is_key(pthread_key_t key) { return key < PTHREAD_KEYS_MAX && keys[key].is_used; }
+
 int pthread_key_delete(pthread_key_t key) {
-    if (key >= PTHREAD_KEYS_MAX || !keys[key].is_used)
+    if (!is_key(key))
         return EINVAL;
     keys[key].is_used = false;
     return 0;
 }
 
 int pthread_setspecific(pthread_key_t key, const void *value) {
-    if (key >= PTHREAD_KEYS_MAX || !keys[key].is_used)
+    if (!is_key(key))
         return EINVAL;
     if (self->values == NULL)
         self->values = calloc(PTHREAD_KEYS_MAX, sizeof *self->values);
     if (self->values == NULL)
         return ENOMEM;
-    self->values[key] = (void *)value;
+    self->values[key] = (struct key_value){keys[key].made, (void *)value};
     return 0;
 }
 
 void *pthread_getspecific(pthread_key_t key) {
-    return self->values != NULL && key < PTHREAD_KEYS_MAX ? self->values[key] : NULL;
+    if (self->values == NULL || !is_key(key) || self->values[key].made != keys[key].made)
+        return NULL;
+    return self->values[key].value;
 }
 
 /* Calls the destructors of this thread's values, again while they set new ones, a few times at most. */
@@ -416,9 +482,9 @@ static void destroy_values(void) {
     for (unsigned round = 0; goes_on && round < PTHREAD_DESTRUCTOR_ITERATIONS; round++) {
         goes_on = false;
         for (unsigned i = 0; i < PTHREAD_KEYS_MAX; i++) {
-            void *value = self->values[i];
-            self->values[i] = NULL;
-            if (value != NULL && keys[i].is_used && keys[i].destructor != NULL) {
+            void *value = pthread_getspecific(i);
+            self->values[i].value = NULL;
+            if (value != NULL && keys[i].destructor != NULL) {
                 keys[i].destructor(value);
                 goes_on = true;
             }

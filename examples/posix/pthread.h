@@ -35,9 +35,35 @@ int pthread_attr_setstacksize(pthread_attr_t *attributes, size_t bytes);
 int pthread_attr_getstacksize(const pthread_attr_t *attributes, size_t *bytes);
 int pthread_attr_setdetachstate(pthread_attr_t *attributes, int state);
 int pthread_attr_getdetachstate(const pthread_attr_t *attributes, int *state);
+
+/* What a thread does at its end, if that comes between push and pop. */
+struct pthread_cleanup {
+    void (*function)(void *);
+    void *argument;
+    struct pthread_cleanup *before;
+};
+void pthread_cleanup_begin(struct pthread_cleanup *cleanup);
+void pthread_cleanup_end(struct pthread_cleanup *cleanup, int is_run);
+#define pthread_cleanup_push(function, argument) \
+    do { \
+        struct pthread_cleanup pthread_cleanup_ = {function, argument, NULL}; \
+        pthread_cleanup_begin(&pthread_cleanup_)
+#define pthread_cleanup_pop(is_run) \
+        pthread_cleanup_end(&pthread_cleanup_, is_run); \
+    } while (0)
+
+/* No thread is ever cancelled. */
+enum { PTHREAD_CANCEL_ENABLE, PTHREAD_CANCEL_DISABLE };
+enum { PTHREAD_CANCEL_DEFERRED, PTHREAD_CANCEL_ASYNCHRONOUS };
+int pthread_setcancelstate(int state, int *before);
+int pthread_setcanceltype(int type, int *before);
+static inline void pthread_testcancel(void) {}
 int pthread_detach(pthread_t thread) PTHREAD_REFUSED("a thread can't be detached: join it");
 int pthread_cancel(pthread_t thread) PTHREAD_REFUSED("a thread can't be cancelled: let it look at a flag");
 int pthread_kill(pthread_t thread, int number) PTHREAD_REFUSED("there are no signals");
+
+/* All memory is shared by all threads, so that an attribute may say so or not. */
+enum { PTHREAD_PROCESS_PRIVATE, PTHREAD_PROCESS_SHARED };
 
 /* Mutexes */
 typedef struct {
@@ -58,6 +84,7 @@ enum {
 };
 #define PTHREAD_MUTEX_INITIALIZER {0, PTHREAD_MUTEX_NORMAL, NULL, 0}
 #define PTHREAD_RECURSIVE_MUTEX_INITIALIZER_NP {0, PTHREAD_MUTEX_RECURSIVE, NULL, 0}
+#define PTHREAD_ERRORCHECK_MUTEX_INITIALIZER_NP {0, PTHREAD_MUTEX_ERRORCHECK, NULL, 0}
 
 int pthread_mutex_init(pthread_mutex_t *mutex, const pthread_mutexattr_t *attributes);
 int pthread_mutex_destroy(pthread_mutex_t *mutex);
@@ -68,18 +95,23 @@ int pthread_mutexattr_init(pthread_mutexattr_t *attributes);
 int pthread_mutexattr_destroy(pthread_mutexattr_t *attributes);
 int pthread_mutexattr_settype(pthread_mutexattr_t *attributes, int type);
 int pthread_mutexattr_gettype(const pthread_mutexattr_t *attributes, int *type);
+int pthread_mutexattr_setpshared(pthread_mutexattr_t *attributes, int shared);
 int pthread_mutex_timedlock(pthread_mutex_t *mutex, const struct timespec *until)
     PTHREAD_REFUSED("there is no clock: lock without a time-out");
 
 /* Condition variables */
 typedef struct {
     _Atomic uint32_t signals;
+    _Atomic uint32_t waiting;
 } pthread_cond_t;
 typedef struct {
     int unused;
 } pthread_condattr_t;
-#define PTHREAD_COND_INITIALIZER {0}
+#define PTHREAD_COND_INITIALIZER {0, 0}
 
+int pthread_condattr_init(pthread_condattr_t *attributes);
+int pthread_condattr_destroy(pthread_condattr_t *attributes);
+int pthread_condattr_setpshared(pthread_condattr_t *attributes, int shared);
 int pthread_cond_init(pthread_cond_t *condition, const pthread_condattr_t *attributes);
 int pthread_cond_destroy(pthread_cond_t *condition);
 int pthread_cond_wait(pthread_cond_t *condition, pthread_mutex_t *mutex);
@@ -100,21 +132,28 @@ typedef struct {
 } pthread_barrierattr_t;
 #define PTHREAD_BARRIER_SERIAL_THREAD (-1)
 
+int pthread_barrierattr_init(pthread_barrierattr_t *attributes);
+int pthread_barrierattr_destroy(pthread_barrierattr_t *attributes);
+int pthread_barrierattr_setpshared(pthread_barrierattr_t *attributes, int shared);
 int pthread_barrier_init(pthread_barrier_t *barrier, const pthread_barrierattr_t *attributes, unsigned threads);
 int pthread_barrier_destroy(pthread_barrier_t *barrier);
 int pthread_barrier_wait(pthread_barrier_t *barrier);
 
-/* Locks for readers and writers; a waiting writer goes before later readers */
+/* Locks for readers and writers; readers are let in while others read, also where a writer waits */
 typedef struct {
     pthread_mutex_t mutex;
     pthread_cond_t changed;
-    uint32_t readers, writers_waiting, has_writer;
+    uint32_t readers;
+    pthread_t writer;
 } pthread_rwlock_t;
 typedef struct {
     int unused;
 } pthread_rwlockattr_t;
-#define PTHREAD_RWLOCK_INITIALIZER {PTHREAD_MUTEX_INITIALIZER, PTHREAD_COND_INITIALIZER, 0, 0, 0}
+#define PTHREAD_RWLOCK_INITIALIZER {PTHREAD_MUTEX_INITIALIZER, PTHREAD_COND_INITIALIZER, 0, NULL}
 
+int pthread_rwlockattr_init(pthread_rwlockattr_t *attributes);
+int pthread_rwlockattr_destroy(pthread_rwlockattr_t *attributes);
+int pthread_rwlockattr_setpshared(pthread_rwlockattr_t *attributes, int shared);
 int pthread_rwlock_init(pthread_rwlock_t *lock, const pthread_rwlockattr_t *attributes);
 int pthread_rwlock_destroy(pthread_rwlock_t *lock);
 int pthread_rwlock_rdlock(pthread_rwlock_t *lock);
@@ -125,7 +164,6 @@ int pthread_rwlock_unlock(pthread_rwlock_t *lock);
 
 /* Spin locks */
 typedef _Atomic uint32_t pthread_spinlock_t;
-enum { PTHREAD_PROCESS_PRIVATE, PTHREAD_PROCESS_SHARED };
 
 int pthread_spin_init(pthread_spinlock_t *lock, int shared);
 int pthread_spin_destroy(pthread_spinlock_t *lock);

@@ -21,6 +21,8 @@ condition variables
 barriers
 locks for readers and writers
 spin locks, once, keys
+clean-ups
+reuse
 semaphores
 memory
 files  1.50

@@ -180,6 +180,7 @@ static void test_rwlocks(void) {
     CHECK(pthread_rwlock_trywrlock(&shared) == EBUSY);
     CHECK(pthread_rwlock_unlock(&shared) == 0 && pthread_rwlock_unlock(&shared) == 0);
     CHECK(pthread_rwlock_trywrlock(&shared) == 0 && pthread_rwlock_tryrdlock(&shared) == EBUSY);
+    CHECK(pthread_rwlock_rdlock(&shared) == EDEADLK && pthread_rwlock_wrlock(&shared) == EDEADLK);
     CHECK(pthread_rwlock_unlock(&shared) == 0);
     start(read_or_write);
     join();
@@ -220,8 +221,66 @@ static void test_rest(void) {
     start(use_all);
     join();
     CHECK(count == 20 * THREADS && made == 1 && destroyed == 111);
-    CHECK(pthread_key_delete(key) == 0);
+    CHECK(pthread_setspecific(key, &count) == 0 && pthread_key_delete(key) == 0);
+    CHECK(pthread_getspecific(key) == NULL && pthread_setspecific(key, &count) == EINVAL);
+    CHECK(pthread_key_create(&key, NULL) == 0 && pthread_getspecific(key) == NULL);
+    CHECK(pthread_key_delete(key) == 0 && pthread_key_delete(key) == EINVAL);
     puts("spin locks, once, keys");
+}
+
+/* What is done at a thread's end, the last first */
+static char done[8];
+
+static void note(void *letter) { strcat(done, letter); }
+
+static void *end_early(void *unused) {
+    pthread_cleanup_push(note, "a");
+    pthread_cleanup_push(note, "b");
+    pthread_cleanup_push(note, "c");
+    pthread_cleanup_pop(0);
+    pthread_cleanup_push(note, "d");
+    pthread_cleanup_pop(1);
+    pthread_exit(unused);
+    pthread_cleanup_pop(0);
+    pthread_cleanup_pop(0);
+    return NULL;
+}
+
+static void test_cleanups(void) {
+    CHECK(pthread_create(&threads[0], NULL, end_early, NULL) == 0 && pthread_join(threads[0], NULL) == 0);
+    CHECK(strcmp(done, "dba") == 0);
+    puts("clean-ups");
+}
+
+/* A condition variable is destroyed and made anew, while threads that were woken are on their way out */
+static pthread_cond_t reused = PTHREAD_COND_INITIALIZER;
+static int arrived, opened;
+
+static void *wait_once(void *unused) {
+    pthread_mutex_lock(&plain);
+    int before = opened;
+    if (++arrived == THREADS)
+        pthread_cond_broadcast(&changed);
+    while (opened == before)
+        pthread_cond_wait(&reused, &plain);
+    pthread_mutex_unlock(&plain);
+    return unused;
+}
+
+static void test_reuse(void) {
+    for (int i = 0; i < 5; i++) {
+        arrived = 0;
+        start(wait_once);
+        pthread_mutex_lock(&plain);
+        while (arrived < THREADS)
+            pthread_cond_wait(&changed, &plain);
+        opened++;
+        pthread_cond_broadcast(&reused);
+        pthread_mutex_unlock(&plain);
+        CHECK(pthread_cond_destroy(&reused) == 0 && pthread_cond_init(&reused, NULL) == 0);
+        join();
+    }
+    puts("reuse");
 }
 
 /* Semaphores */
@@ -306,6 +365,8 @@ int main(int words, char **word) {
     test_barriers();
     test_rwlocks();
     test_rest();
+    test_cleanups();
+    test_reuse();
     test_semaphores();
     test_memory();
     test_files(words, word);
