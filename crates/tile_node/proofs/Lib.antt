@@ -1,4 +1,4 @@
-mod Facts
+pub mod Facts
 mod Fits
 mod Made
 mod Plans
