@@ -68,7 +68,7 @@ use Rattle.agreement_laws.proofs.Whole.{All}
 pub record Outcome (w : Setup) (s : State Node Msg) (value : ℕ → LineData) (f : Flat) (a : All w s value f) (x : ℕ) (act : Act) : Type 0 where
   pub made : Made w (changed s x (change_of (of_tile act))) a.whole.server f (values_after w s (Step x) value) act.action
 
-busy_is : (status : Status) → steps_in status ≡ true → status ≢ Idle
+pub busy_is : (status : Status) → steps_in status ≡ true → status ≢ Idle
 busy_is Run can = λ e. cc
 busy_is Writing can = λ e. cc
 busy_is Idle can = cc
@@ -79,7 +79,7 @@ busy_is (Probing b partner replies) can = cc
 busy_is Trapped can = cc
 
 -- an act that commits nothing, or that changes one thread alone
-silent_act : {w : Setup} {s : State Node Msg} {value : ℕ → LineData} {f : Flat} (a : All w s value f) (x : ℕ) (t : TileData) (act : Act) → s.node x ≡ Tile t → t.core.status ≢ Idle
+pub silent_act : {w : Setup} {s : State Node Msg} {value : ℕ → LineData} {f : Flat} (a : All w s value f) (x : ℕ) (t : TileData) (act : Act) → s.node x ≡ Tile t → t.core.status ≢ Idle
     → act.action ≡ None → act.tile.core.thread ≡ t.core.thread → act.tile.core.reservation ≡ t.core.reservation → ((k : ℕ) → values_after w s (Step x) value k ≡ value k)
     → Kept w (changed s x (change_of (of_tile act))) a.whole.server f → Outcome w s value f a x act
 silent_act {w} {s} {value} {f} a x t act is busy none thread reservation values kept = record {
@@ -88,7 +88,7 @@ silent_act {w} {s} {value} {f} a x t act is busy none thread reservation values 
       (λ y far. node_other s x (change_of (of_tile act)) y far) busy thread (λ span e. sym reservation ∙ e) values a.whole.bytes kept);
 }
 
-changed_act : {w : Setup} {s : State Node Msg} {value : ℕ → LineData} {f : Flat} (a : All w s value f) (x : ℕ) (t : TileData) (act : Act) (action : Action) (new : Thread → Thread) → x < w.config.tiles → s.node x ≡ Tile t → t.core.status ≢ Idle
+pub changed_act : {w : Setup} {s : State Node Msg} {value : ℕ → LineData} {f : Flat} (a : All w s value f) (x : ℕ) (t : TileData) (act : Act) (action : Action) (new : Thread → Thread) → x < w.config.tiles → s.node x ≡ Tile t → t.core.status ≢ Idle
     → act.action ≡ Some action → act.tile.core.thread ≡ t.core.thread → ((th : Thread) → StandsToo t.core.reservation th.reservation → StandsToo act.tile.core.reservation (new th).reservation)
     → ((k : ℕ) → values_after w s (Step x) value k ≡ value k) → Changed w (changed s x (change_of (of_tile act))) a.whole.server f t.core.thread action new → Outcome w s value f a x act
 changed_act {w} {s} {value} {f} a x t act action new low is busy commits thread own values made = record {
@@ -107,7 +107,7 @@ held_writable Lr S content enough write = cc
 held_writable Sc S content enough write = cc
 held_writable (Amo o) S content enough write = cc
 
-hit_act : {w : Setup} {s : State Node Msg} {value : ℕ → LineData} {f : Flat} (a : All w s value f) (x : ℕ) (t : TileData) (access : Asked) (way : Way) → x < w.config.tiles → s.node x ≡ Tile t
+pub hit_act : {w : Setup} {s : State Node Msg} {value : ℕ → LineData} {f : Flat} (a : All w s value f) (x : ℕ) (t : TileData) (access : Asked) (way : Way) → x < w.config.tiles → s.node x ≡ Tile t
     → t.core.status ≡ Run → plan_of w t.core ≡ Access access → way_of t.cache (line_at access.addr) ≡ Some way → suits access.op way.hold ≡ true
     → tile_step w t ≡ accesses w t access → Sound w (changed s x (change_of (of_tile (tile_step w t)))) (values_after w s (Step x) value)
     → ((k : ℕ) → values_after w s (Step x) value k ≡ line_after value access k) → Outcome w s value f a x (accesses w t access)
