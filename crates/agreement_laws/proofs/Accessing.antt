@@ -160,8 +160,8 @@ access_kept {w} {s} {c} {f} k value s' x u regs pc going access low phase status
       is_thread = there.is_thread;
       legal = exec_is w f u th (completed f.memory th access done) there.is_thread ready does';
       threads =
-        stays_moves k s' g x u (on h going) (on h' runs) th' phase refl refl stays.1 stays.0 elsewhere
-        (λ host. ap (λ o. record (side_of w u host (on h going)) { status = Some th'.status; place = o }) place'
+          stays_moves k s' g x u (on h going) (on h' runs) th' phase refl refl stays.1 stays.0 elsewhere
+          (λ host. ap (λ o. record (side_of w u host (on h going)) { status = Some th'.status; place = o }) place'
           ∙ (ap (λ z. record (side_of w u host (on h going)) { status = Some z; place = Some h' }) ready
           ∙ ap (λ rs. record (side_of w u host (on h going)) { status = Some Ready; place = Some h'; reports = rs }) reports)) tt (low, tt, tt) here;
       bytes = same.bytes;
@@ -185,18 +185,18 @@ access_away : (s s' : State Node Msg) (x : ℕ) (access : Asked) (line : LineDat
     → access.addr % 64 + access.size ≤ 64 → (is_write access.op ≡ true → IsWritable (copy_at (s'.node x) (access.addr / 64))) → IsAway s x (written_span access (done_on access line).write)
 access_away s s' x access line held writer there room writes = record {
   away = λ y t span bytes far is has written.
-    let made = written_is access (done_on access line).write bytes written in
-    let mine : IsWritable (copy_at (s'.node x) (access.addr / 64)) = writes (writes_only access _ made.0 made.1) in
-    let own = held y t span is has in
-    let node : s'.node y ≡ Tile t = there y far ∙ is in
-    let theirs : IsWritable (copy_at (s'.node y) (span.addr / 64)) = subst (λ n. IsWritable (copy_at n (span.addr / 64))) (sym node) own.copy in
-    let lines : access.addr / 64 ≢ span.addr / 64 = λ same.
+      let made = written_is access (done_on access line).write bytes written in
+      let mine : IsWritable (copy_at (s'.node x) (access.addr / 64)) = writes (writes_only access _ made.0 made.1) in
+      let own = held y t span is has in
+      let node : s'.node y ≡ Tile t = there y far ∙ is in
+      let theirs : IsWritable (copy_at (s'.node y) (span.addr / 64)) = subst (λ n. IsWritable (copy_at n (span.addr / 64))) (sym node) own.copy in
+      let lines : access.addr / 64 ≢ span.addr / 64 = λ same.
       (let other : IsWritable (copy_at (s'.node y) (access.addr / 64)) = subst (λ k. IsWritable (copy_at (s'.node y) k)) (sym same) theirs in
       elim (writer (access.addr / 64) x y mine) [
         | inl one ↦ (let i : (y == y) ≡ true = same_is y in let z : (y == x) ≡ (y == y) = ap (λ a. y == a) one in cc)
         | inr none ↦ subst IsWritable none other
       ]) in
-    subst (λ b. share_byte b span ≡ false) made.2 (share_apart (span_of access) span lines room own.room);
+      subst (λ b. share_byte b span ≡ false) made.2 (share_apart (span_of access) span lines room own.room);
 }
 
 pub accessed_made : {w : Setup} {s : State Node Msg} {c : Control} {f : Flat} (k : Kept w s c f) (s' : State Node Msg) (x u : ℕ) (t' : TileData) (access : Asked) (value value' : ℕ → LineData) (before : Option Span)
@@ -214,9 +214,9 @@ accessed_made {w} {s} {c} {f} k s' x u t' access value value' before nodes held 
       legal = made.legal;
       threads = made.threads;
       stand = stand_after k s' g x u t' (written_span access done.write) nodes stand seat here there
-        (change_others f u made.thread (written_memory f.memory access done.write) (written_span access done.write) th' made.is_thread)
-        (access_away s s' x access (value (access.addr / 64)) held writer there room writes)
-        (λ th busy at.
+          (change_others f u made.thread (written_memory f.memory access done.write) (written_span access done.write) th' made.is_thread)
+          (access_away s s' x access (value (access.addr / 64)) held writer there room writes)
+          (λ th busy at.
           let one : Some th' ≡ Some th = sym stays.1 ∙ (ap (slice_get g.threads) (sym same) ∙ at) in
           let is : th' ≡ th = cc in
           let own : StandsToo (reserved access before) th'.reservation = too_by access.op access before made.thread.reservation (too made.thread made.is_thread) in

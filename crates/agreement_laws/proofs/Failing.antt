@@ -56,27 +56,27 @@ fail_kept {w} {s} {c} {f} k x t rd low is run planned too =
     let th' : Thread = failed_conditional th rd in
     let performed : IsExecuted f.memory th (plan_by w th.pc (next_step w th.regs th.pc t.core.reservation u)) (step_of w u th) = plan_executes w f.memory th t.core.reservation u ready (too th there.is_thread) in
     let same_plan : plan_by w th.pc (next_step w th.regs th.pc t.core.reservation u) ≡ ScFails rd =
-      ap (λ z. plan_by w z (next_step w th.regs z t.core.reservation u)) there.pc ∙ (ap (λ z. plan_by w t.core.pc (next_step w z t.core.pc t.core.reservation u)) there.regs ∙ planned) in
+    ap (λ z. plan_by w z (next_step w th.regs z t.core.reservation u)) there.pc ∙ (ap (λ z. plan_by w t.core.pc (next_step w z t.core.pc t.core.reservation u)) there.regs ∙ planned) in
     let does : option_map (failed_conditional th) (conditional_rd (step_of w u th)) ≡ Some th' = subst (λ p. IsExecuted f.memory th p (step_of w u th)) same_plan performed in
     let g : Flat = with_thread f u th' in
     let phase = runs_here k x t low is run in
     let place' : place_of th' ≡ Some h' =
-      ap (λ z. option_map {U = Hart} (λ tile. record { tile = tile; regs = with_register th.regs rd 1; pc = next_pc th.pc }) z) there.place
-      ∙ (ap (λ z. Some (record { tile = x; regs = with_register z rd 1; pc = next_pc th.pc })) there.regs
-      ∙ ap (λ z. Some (record { tile = x; regs = with_register t.core.regs rd 1; pc = next_pc z })) there.pc) in
+    ap (λ z. option_map {U = Hart} (λ tile. record { tile = tile; regs = with_register th.regs rd 1; pc = next_pc th.pc }) z) there.place
+    ∙ (ap (λ z. Some (record { tile = x; regs = with_register z rd 1; pc = next_pc th.pc })) there.regs
+    ∙ ap (λ z. Some (record { tile = x; regs = with_register t.core.regs rd 1; pc = next_pc z })) there.pc) in
     let sits : sitting_in x (fails_conditional w.config t rd).tile.core ≡ Some (record { thread = u; hart = h'; stance = running }) =
-      ap (λ status. option_map {U = Sitting} (λ stance. record { thread = u; hart = h'; stance = stance }) (stance_in status t.core.write)) run in
+    ap (λ status. option_map {U = Sitting} (λ stance. record { thread = u; hart = h'; stance = stance }) (stance_in status t.core.write)) run in
     record {
       thread = th;
       is_thread = there.is_thread;
       legal =
-        ap (λ o. option_map (with_thread f u) (option_and_then (failed w u) o)) there.is_thread
-        ∙ (ap (λ status. option_map (with_thread f u) (failed_by w u th status)) ready ∙ ap (option_map (with_thread f u)) does);
+          ap (λ o. option_map (with_thread f u) (option_and_then (failed w u) o)) there.is_thread
+          ∙ (ap (λ status. option_map (with_thread f u) (failed_by w u th status)) ready ∙ ap (option_map (with_thread f u)) does);
       threads =
-        stays_moves k (changed s x (change_of (of_tile (fails_conditional w.config t rd)))) g x u (on h runs) (on h' runs) th' phase refl refl (get_set_here f.threads u th' th there.is_thread)
-        (one_changes f u th th' there.is_thread refl) (changed_elsewhere w s x (change_of (of_tile (fails_conditional w.config t rd))) low)
-        (λ host. ap (λ o. record (side_of w u host (on h runs)) { status = Some th'.status; place = o }) place' ∙ ap (λ z. record (side_of w u host (on h' runs)) { status = Some z }) ready) tt (low, tt, tt)
-        (spot_sent k x t (fails_conditional w.config t rd).tile [] (spot_at u (on h' runs)) low phase sits refl refl refl refl);
+          stays_moves k (changed s x (change_of (of_tile (fails_conditional w.config t rd)))) g x u (on h runs) (on h' runs) th' phase refl refl (get_set_here f.threads u th' th there.is_thread)
+          (one_changes f u th th' there.is_thread refl) (changed_elsewhere w s x (change_of (of_tile (fails_conditional w.config t rd))) low)
+          (λ host. ap (λ o. record (side_of w u host (on h runs)) { status = Some th'.status; place = o }) place' ∙ ap (λ z. record (side_of w u host (on h' runs)) { status = Some z }) ready) tt (low, tt, tt)
+          (spot_sent k x t (fails_conditional w.config t rd).tile [] (spot_at u (on h' runs)) low phase sits refl refl refl refl);
     }
 
 -- A WRITE BEGINS

@@ -118,7 +118,7 @@ turns {w} {s} {c} {f} k s' x u regs pc going p' phase at' elsewhere same knows f
     let th : Thread = there.thread in
     stays_moves k s' f x u (on h going) p' th phase refl at' there.is_thread (record { status = λ y e. refl; place = λ y e. refl; control = refl }) elsewhere
     (λ host. ap (λ z. record (side_of w u host (on h going)) { status = Some z; place = place_of th }) there.status
-      ∙ (ap (λ o. record (side_of w u host (on h going)) { place = o }) (place_is th x regs pc there.regs there.pc there.place) ∙ same host)) knows fit here
+    ∙ (ap (λ o. record (side_of w u host (on h going)) { place = o }) (place_is th x regs pc there.regs there.pc there.place) ∙ same host)) knows fit here
 
 -- A TILE THAT CAN STEP runs, or reads the bytes of a write
 abbrev pub begins : Work → Going

@@ -62,13 +62,13 @@ load_kept {w} {s} {c} {f} k s' x u regs pc going write value low phase status re
       thread = th;
       is_thread = there.is_thread;
       legal =
-        ap (λ o. option_map (with_thread f u) (option_and_then (loaded f.memory) o)) there.is_thread
-        ∙ (ap (λ z. option_map (with_thread f u) (loaded_by f.memory th z)) is_writing
-        ∙ ap (option_map (with_thread f u)) (cond-true (nat_lt (length write.got) write.len) (Some th') None (not_all write more)));
+          ap (λ o. option_map (with_thread f u) (option_and_then (loaded f.memory) o)) there.is_thread
+          ∙ (ap (λ z. option_map (with_thread f u) (loaded_by f.memory th z)) is_writing
+          ∙ ap (option_map (with_thread f u)) (cond-true (nat_lt (length write.got) write.len) (Some th') None (not_all write more)));
       threads =
-        stays_moves k s' g x u (on h going) (on h (writes (with_byte write (byte_read value write)))) th' phase refl refl (get_set_here f.threads u th' th there.is_thread)
-        (one_changes f u th th' there.is_thread (ap (fate_by th.joiner) (sym is_writing))) elsewhere
-        (λ host. ap (λ z. record (side_of w u host (on h going)) { status = Some z; place = place_of th' }) status'
+          stays_moves k s' g x u (on h going) (on h (writes (with_byte write (byte_read value write)))) th' phase refl refl (get_set_here f.threads u th' th there.is_thread)
+          (one_changes f u th th' there.is_thread (ap (fate_by th.joiner) (sym is_writing))) elsewhere
+          (λ host. ap (λ z. record (side_of w u host (on h going)) { status = Some z; place = place_of th' }) status'
           ∙ (ap (λ o. record (side_of w u host (on h going)) { status = Some new; place = o }) (place_is th x regs pc there.regs there.pc there.place)
           ∙ ap (λ rs. record (side_of w u host (on h going)) { status = Some new; place = Some h; reports = rs }) reports)) tt (low, tt, tt) here;
     }

@@ -105,4 +105,4 @@ missed_kept {w} {s} {c} {f} k x t line low is so =
     let phase = writes_here k x t low is so in
     turns k (changed s x (change_of (of_tile (misses_line w t line false None)))) x u t.core.regs t.core.pc (writes t.core.write) (on h (misses_byte t.core.write)) phase refl (changed_elsewhere w s x (change_of (of_tile (misses_line w t line false None))) low) (λ host. refl) tt (low, tt, tt)
     (spot_acts w s x (misses_line w t line false None).tile ((home, up_message line (asks false)) ∷ []) _ _ low (spot_on k x u _ low phase refl) refl (asks_silent line home false (control_node w.config))
-      (asks_silent line home false (local_node w.config (host_of w.config x))) refl refl)
+    (asks_silent line home false (local_node w.config (host_of w.config x))) refl refl)

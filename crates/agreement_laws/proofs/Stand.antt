@@ -60,9 +60,9 @@ pub change_others : (f : Flat) (u : ℕ) (th : Thread) (memory : Memory) (writte
 change_others f u th memory None th' is = set_others f (with_change f u (record { memory = memory; written = None; thread = th' })) u th' refl
 change_others f u th memory (Some written) th' is = record {
   other = λ y there e here.
-    let own : slice_get (slice_set f.threads u th') u ≡ Some th' = get_set_here f.threads u th' th is in
-    let found = of_map written (slice_get (slice_set f.threads u th') y) there (sym (others_there written (slice_set f.threads u th') u y th' own (apart u y e)) ∙ here) in
-    record { thread = found.0; is_thread = sym (get_set_there f.threads u y th' (apart u y e)) ∙ found.1; reservation = found.2 };
+      let own : slice_get (slice_set f.threads u th') u ≡ Some th' = get_set_here f.threads u th' th is in
+      let found = of_map written (slice_get (slice_set f.threads u th') y) there (sym (others_there written (slice_set f.threads u th') u y th' own (apart u y e)) ∙ here) in
+      record { thread = found.0; is_thread = sym (get_set_there f.threads u y th' (apart u y e)) ∙ found.1; reservation = found.2 };
 }
 
 -- who sits on a busy tile is its core's thread
@@ -147,10 +147,10 @@ changed_made {w} {s} {c} {f} k s' x u t' action new value value' nodes stand sea
       legal = made.legal;
       threads = made.threads;
       stand = stand_after k s' g x u t' None nodes stand seat here there (set_others f g u (new made.thread) refl) (nothing_away s x) (λ th busy at.
-        let mine : slice_get g.threads u ≡ Some (new made.thread) = get_set_here f.threads u (new made.thread) made.thread made.is_thread in
-        let one : Some (new made.thread) ≡ Some th = sym mine ∙ (ap (slice_get g.threads) (sym same) ∙ at) in
-        let is : new made.thread ≡ th = cc in
-        subst (λ (z : Thread). StandsToo t'.core.reservation z.reservation) is (own made.thread made.is_thread busy));
+          let mine : slice_get g.threads u ≡ Some (new made.thread) = get_set_here f.threads u (new made.thread) made.thread made.is_thread in
+          let one : Some (new made.thread) ≡ Some th = sym mine ∙ (ap (slice_get g.threads) (sym same) ∙ at) in
+          let is : new made.thread ≡ th = cc in
+          subst (λ (z : Thread). StandsToo t'.core.reservation z.reservation) is (own made.thread made.is_thread busy));
       bytes = same_bytes f.memory value value' values agrees;
     }
 

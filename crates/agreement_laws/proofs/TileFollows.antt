@@ -149,12 +149,12 @@ byte_act {w} {s} {value} {f} a x t (Some way) low is so free more found =
     let content : way.content ≡ value line = way_value t line way (value line) found has in
     let phase = writes_here a.whole.threads x t low is so in
     let sits : sitting_in x act.tile.core ≡ Some (record { thread = u; hart = h; stance = writing (with_byte t.core.write (byte_read value t.core.write)) }) =
-      ap (λ status. option_map {U = Sitting} (λ stance. record { thread = u; hart = record { tile = x; regs = t.core.regs; pc = t.core.pc }; stance = stance }) (stance_in status act.tile.core.write)) so ∙ ap (λ (d : LineData). Some (record { thread = u; hart = record { tile = x; regs = t.core.regs; pc = t.core.pc }; stance = writing (with_byte t.core.write (slice_index d.bytes (place_in_line (next_byte t.core.write)))) })) content in
+    ap (λ status. option_map {U = Sitting} (λ stance. record { thread = u; hart = record { tile = x; regs = t.core.regs; pc = t.core.pc }; stance = stance }) (stance_in status act.tile.core.write)) so ∙ ap (λ (d : LineData). Some (record { thread = u; hart = record { tile = x; regs = t.core.regs; pc = t.core.pc }; stance = writing (with_byte t.core.write (slice_index d.bytes (place_in_line (next_byte t.core.write)))) })) content in
     changed_act a x t act (LoadByte u) (with_next f.memory t.core.write) low is (λ e. (let z : Writing ≡ Idle = sym so ∙ e in cc)) refl refl (λ th own. own)
     (λ k. stepped_same w s x t value k _ is (writing_at w t k free.limit free.alone (ap is_writing so)) (writes_same t k))
     (load_kept a.whole.threads (changed s x (change_of (of_tile act))) x u t.core.regs t.core.pc (writes_phase t.core.write) t.core.write value low phase refl refl more a.whole.bytes
-      (changed_elsewhere w s x (change_of (of_tile act)) low)
-      (spot_acts w s x act.tile [] _ _ low (spot_on a.whole.threads x u _ low phase refl) sits refl refl refl refl))
+    (changed_elsewhere w s x (change_of (of_tile act)) low)
+    (spot_acts w s x act.tile [] _ _ low (spot_on a.whole.threads x u _ low phase refl) sits refl refl refl refl))
 
 writing_act : {w : Setup} {s : State Node Msg} {value : ℕ → LineData} {f : Flat} (a : All w s value f) (x : ℕ) (t : TileData) → x < w.config.tiles → s.node x ≡ Tile t → t.core.status ≡ Writing → IsFree w t → Outcome w s value f a x (writes w t)
 writing_act {w} {s} {value} {f} a x t low is so free = elim (cases_Bool (is_gathered t.core.write)) [

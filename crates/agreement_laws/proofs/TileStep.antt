@@ -84,7 +84,7 @@ pub silent_act : {w : Setup} {s : State Node Msg} {value : ℕ → LineData} {f 
     → Kept w (changed s x (change_of (of_tile act))) a.whole.server f → Outcome w s value f a x act
 silent_act {w} {s} {value} {f} a x t act is busy none thread reservation values kept = record {
   made = subst (λ o. Made w (changed s x (change_of (of_tile act))) a.whole.server f (values_after w s (Step x) value) o) (sym none)
-    (silent_made a.whole.threads (changed s x (change_of (of_tile act))) x t act.tile value (values_after w s (Step x) value) a.whole.stand is (cond-true (x == x) _ _ (same_is x))
+      (silent_made a.whole.threads (changed s x (change_of (of_tile act))) x t act.tile value (values_after w s (Step x) value) a.whole.stand is (cond-true (x == x) _ _ (same_is x))
       (λ y far. node_other s x (change_of (of_tile act)) y far) busy thread (λ span e. sym reservation ∙ e) values a.whole.bytes kept);
 }
 
@@ -93,7 +93,7 @@ pub changed_act : {w : Setup} {s : State Node Msg} {value : ℕ → LineData} {f
     → ((k : ℕ) → values_after w s (Step x) value k ≡ value k) → Changed w (changed s x (change_of (of_tile act))) a.whole.server f t.core.thread action new → Outcome w s value f a x act
 changed_act {w} {s} {value} {f} a x t act action new low is busy commits thread own values made = record {
   made = subst (λ o. Made w (changed s x (change_of (of_tile act))) a.whole.server f (values_after w s (Step x) value) o) (sym commits)
-    (changed_made a.whole.threads (changed s x (change_of (of_tile act))) x t.core.thread act.tile action new value (values_after w s (Step x) value) a.sound.nodes a.whole.stand
+      (changed_made a.whole.threads (changed s x (change_of (of_tile act))) x t.core.thread act.tile action new value (values_after w s (Step x) value) a.sound.nodes a.whole.stand
       (who_sits a.whole.threads x t low is busy) (cond-true (x == x) _ _ (same_is x)) (λ y far. node_other s x (change_of (of_tile act)) y far) thread
       (λ th at some. own th (a.whole.stand x t th is busy at)) values a.whole.bytes made);
 }
@@ -122,19 +122,19 @@ hit_act {w} {s} {value} {f} a x t access way low is run plan found enough step a
     let too : (th : Thread) → slice_get f.threads u ≡ Some th → StandsToo t.core.reservation th.reservation = λ th at. a.whole.stand x t th is busy at in
     let keys : (i : ℕ) → i < access.size → contains_key f.memory (access.addr + i) ≡ true = λ i small. a.whole.mapped (access.addr + i) ∙ granted_mapped w access i proper.granted small in
     let has : HasData (copy_of t.cache (line_at access.addr)) (value (line_at access.addr)) =
-      subst (λ n. HasData (copy_at n (line_at access.addr)) (value (line_at access.addr))) is ((holds_coherent w s (line_at access.addr) (value (line_at access.addr)) (a.sound.lines (line_at access.addr))).copies x) in
+    subst (λ n. HasData (copy_at n (line_at access.addr)) (value (line_at access.addr))) is ((holds_coherent w s (line_at access.addr) (value (line_at access.addr)) (a.sound.lines (line_at access.addr))).copies x) in
     let done = hit_kept a.whole.threads value x t access way low is run plan found enough too proper.room (a.lines (line_at access.addr)) keys has a.whole.bytes in
     let is_act : act ≡ accesses_by w t access (Some way) = ap (accesses_by w t access) found in
     let sound : Sound w s' (values_after w s (Step x) value) = subst (λ (z : Act). Sound w (changed s x (change_of (of_tile z))) (values_after w s (Step x) value)) step after in
     let here : s'.node x ≡ Tile act.tile = cond-true (x == x) _ _ (same_is x) in
     let old : is_write access.op ≡ true → IsWritable (copy_of t.cache (line_at access.addr)) = λ write. subst (λ o. IsWritable (copy_in o)) (sym found) (held_writable access.op way.hold way.content enough write) in
     let new : is_write access.op ≡ true → IsWritable (copy_at (s'.node x) (line_at access.addr)) = λ write.
-      subst (λ n. IsWritable (copy_at n (line_at access.addr))) (sym here)
-      (subst (λ (z : Act). IsWritable (copy_of z.tile.cache (line_at access.addr))) step (modified_stays w t (line_at access.addr) can node.2 (old write))) in
+    subst (λ n. IsWritable (copy_at n (line_at access.addr))) (sym here)
+    (subst (λ (z : Act). IsWritable (copy_of z.tile.cache (line_at access.addr))) step (modified_stays w t (line_at access.addr) can node.2 (old write))) in
     let full : act ≡ _ = is_act ∙ cond-true (suits access.op way.hold) _ _ enough in
     record {
       made = subst (λ o. Made w s' a.whole.server f (values_after w s (Step x) value) o) (sym (ap (λ (z : Act). z.action) full))
-        (accessed_made a.whole.threads s' x u act.tile access value (values_after w s (Step x) value) t.core.reservation a.sound.nodes a.whole.held a.whole.stand (who_sits a.whole.threads x t low is busy) here
+          (accessed_made a.whole.threads s' x u act.tile access value (values_after w s (Step x) value) t.core.reservation a.sound.nodes a.whole.held a.whole.stand (who_sits a.whole.threads x t low is busy) here
           (λ y far. node_other s x (change_of (of_tile act)) y far) (λ k. (holds_coherent w s' k (values_after w s (Step x) value k) (sound.lines k)).writer) proper.room new
           (ap (λ (z : Act). z.tile.core.thread) full) (ap (λ (z : Act). z.tile.core.reservation) full) too values done);
     }
