@@ -105,8 +105,8 @@ born_moves {w} {s} {c} {f} k free at entry arg time limit low =
       fit = low;
       ended = λ some. some;
       control =
-        ap (λ (z : ControlData). record z { fates = z.fates ++ Live None ∷ [] }) k.control
-        ∙ ap (λ (fates : List Fate). (let d : ControlData = record { fates = fates; waiters = f.waiters; heap_break = f.heap_break; output = f.output; ended = f.ended } in d)) (more_threads f.threads entry arg);
+          ap (λ (z : ControlData). record z { fates = z.fates ++ Live None ∷ [] }) k.control
+          ∙ ap (λ (fates : List Fate). (let d : ControlData = record { fates = fates; waiters = f.waiters; heap_break = f.heap_break; output = f.output; ended = f.ended } in d)) (more_threads f.threads entry arg);
     }) (posts_start w u at entry arg time limit)
 
 -- A THREAD THAT HAS EXITED is joined
@@ -160,12 +160,12 @@ joined_moves {w} {s} {c} {f} k target code exited =
     let c' : Control = record c { control = record c.control { fates = slice_set c.control.fates target (Exited code true) } } in
     let f' : Flat = record f { threads = with_status f.threads target (Gone code true) } in
     let status : option_map (λ t. t.status) (slice_get f.threads target) ≡ Some (Gone code false) =
-      gone_status (slice_get f.threads target) code false (sym (get_map fate_of f.threads target) ∙ (ap (λ fs. slice_get fs target) (sym (fates_are k)) ∙ exited)) in
+    gone_status (slice_get f.threads target) code false (sym (get_map fate_of f.threads target) ∙ (ap (λ fs. slice_get fs target) (sym (fates_are k)) ∙ exited)) in
     let is_p : k.phase target ≡ over code false = got_over w target (k.phase target) code false (sym (ap (λ (z : Side). z.status) (k.sides target 0)) ∙ status) in
     let old : (host : ℕ) → side w s c f target host ≡ side_of w target host (over code false) = λ host. k.sides target host ∙ ap (side_of w target host) is_p in
     let turns : FlatTurns f f' target (Gone code true) None = status_turns f f' target (Gone code false) (Gone code true) None status (ap (λ (z : Side). z.place) (old 0)) refl in
     let keys : (x : ℕ) → keys_of c'.control x ≡ keys_of c.control x = λ x. ap (λ ts. words_of c.control.waiters x ++ ts) (targets_same c.control.fates x 0 target (Exited code true) (λ was at.
-      let same : was ≡ Exited code false = out_of _ _ (sym at ∙ exited) in ap (is_joiner x) same)) in
+    let same : was ≡ Exited code false = out_of _ _ (sym at ∙ exited) in ap (is_joiner x) same)) in
     posted_moves k c' f' target (over code false) (over code true) [] is_p refl (record {
       status = λ host. turns.is_status;
       place = λ host. turns.is_place;
@@ -203,7 +203,7 @@ pub who_leaves : {w : Setup} {s : State Node Msg} {c : Control} {f : Flat} (k : 
     → IsLeaver w q rest code (k.phase q.thread)
 who_leaves {w} {s} {c} {f} k q rest code e is =
     let r = got_exit w q.thread (k.phase q.thread) q (filter (is_by q.thread) rest) code is
-      (sym (ap (λ (z : Side). z.backlog) (k.sides q.thread 0)) ∙ (ap (filter (is_by q.thread)) e ∙ backlog_head q rest)) in
+    (sym (ap (λ (z : Side). z.backlog) (k.sides q.thread 0)) ∙ (ap (filter (is_by q.thread)) e ∙ backlog_head q rest)) in
     record { host = r.0; time = r.1; phase = r.2; from = r.3; alone = r.4 }
 
 -- it lived, joined by nobody; the end may be set
@@ -218,7 +218,7 @@ exit_moves {w} {s} {c} {f} k f' q rest code joined free end e is none live turns
     let c' : Control = record c { control = record c.control { fates = slice_set c.control.fates u (Exited code joined); ended = end }; backlog = rest; free = free; epochs = left_by u c.epochs } in
     let old : (host : ℕ) → side w s c f u host ≡ side_of w u host p = λ host. k.sides u host ∙ ap (side_of w u host) a.phase in
     let keys : (x : ℕ) → keys_of c'.control x ≡ keys_of c.control x = λ x. ap (λ ts. words_of c.control.waiters x ++ ts) (targets_same c.control.fates x 0 u (Exited code joined) (λ was at.
-      let same : was ≡ Live None = out_of _ _ (sym at ∙ live) in ap (is_joiner x) same)) in
+    let same : was ≡ Live None = out_of _ _ (sym at ∙ live) in ap (is_joiner x) same)) in
     posted_moves k c' f' u p (over code joined) [] a.phase refl (record {
       status = λ host. turns.is_status;
       place = λ host. turns.is_place;
@@ -262,7 +262,7 @@ pub who_trapped : {w : Setup} {s : State Node Msg} {c : Control} {f : Flat} (k :
     → IsTrapped q rest cause pc (k.phase q.thread)
 who_trapped {w} {s} {c} {f} k q rest cause pc e is =
     let r = got_trap w q.thread (k.phase q.thread) q (filter (is_by q.thread) rest) cause pc is
-      (sym (ap (λ (z : Side). z.backlog) (k.sides q.thread 0)) ∙ (ap (filter (is_by q.thread)) e ∙ backlog_head q rest)) in
+    (sym (ap (λ (z : Side). z.backlog) (k.sides q.thread 0)) ∙ (ap (filter (is_by q.thread)) e ∙ backlog_head q rest)) in
     record { h = r.0; phase = r.1; at = r.2; alone = r.3 }
 
 pub trap_moves : {w : Setup} {s : State Node Msg} {c : Control} {f : Flat} (k : Kept w s c f) (f' : Flat) (q : Waiting) (rest : List Waiting) (cause : Cause) (pc : ℕ) (free : List ℕ) (end : Option End)

@@ -217,7 +217,7 @@ advanced {w} {s} {c} {f} k =
     let lists : (u host : ℕ) → side w s' c' f u host ≡ record (side w s c f u host) { reports = map no_more (reports_of u ms) } = λ u host i. record (side w s c f u host) {
       reports = reports_renewed u ms i;
       starts = (seen_after (names u) s n change n (local_node w.config host) ∙ (cond-true (n == n) _ _ (same_is n)
-        ∙ (ap (λ ys. starts_of w s host u ++ ys) (unnamed u (local_node w.config host) l ms) ∙ append-nil (starts_of w s host u)))) i;
+          ∙ (ap (λ ys. starts_of w s host u ++ ys) (unnamed u (local_node w.config host) l ms) ∙ append-nil (starts_of w s host u)))) i;
       exits = (ap (naming u) (cond-false (local_node w.config host == n) (s.queue (local_node w.config host) n ++ messages_to n mail) (s.queue (local_node w.config host) n) (local_not n host))) i;
     } in
     record {
@@ -245,7 +245,7 @@ advanced {w} {s} {c} {f} k =
         let l : ℕ = limit_of (next_epoch c.epochs) in
         let there : reports_of u c.epochs.members ≡ (side_of w u 0 (k.phase u)).reports = ap (λ (z : Side). z.reports) (k.sides u 0) in
         let ones : messages_to tile (limits_sent c.epochs) ≡ limits_in tile l (side_of w u 0 (k.phase u)).reports =
-          limits_one tile u l c.epochs.members (λ i m is at. (let z : Some m.thread ≡ Some u = sym (noted_sits k tile i m is at) ∙ e in let q : m.thread ≡ u = cc in q)) ∙ ap (limits_in tile l) there in
+        limits_one tile u l c.epochs.members (λ i m is at. (let z : Some m.thread ≡ Some u = sym (noted_sits k tile i m is at) ∙ e in let q : m.thread ≡ u = cc in q)) ∙ ap (limits_in tile l) there in
         ap (λ ms. record (spot w s tile) { from_control = (spot w s tile).from_control ++ ms }) (ap of_threads ones ∙ about tile l (side_of w u 0 (k.phase u)).reports)
         ∙ (ap (λ (z : Spot). record z { from_control = z.from_control ++ limits_in tile l (side_of w u 0 (k.phase u)).reports }) (k.spots tile low ∙ ap (spot_of k.phase) e)
         ∙ spot_onward w u tile l (k.phase u) (k.stands u tile e))

@@ -95,7 +95,7 @@ wait_outcome_by {w} {s} {c} {f} k check free true e none =
     let end : Option End = closed_end true (with_waiter c.control u check.addr) in
     let keys = both_none (words_of c.control.waiters u) (targets_of u 0 c.control.fates) (asker_keys k u call c.backlog None a) in
     let one : keys_of (with_waiter c.control u check.addr) u ≡ word check.addr ∷ [] =
-      ap (λ ks. ks ++ targets_of u 0 c.control.fates) (words_here c.control.waiters u check.addr keys.0) ∙ ap (λ ks. word check.addr ∷ ks) keys.1 in
+    ap (λ ks. ks ++ targets_of u 0 c.control.fates) (words_here c.control.waiters u check.addr keys.0) ∙ ap (λ ks. word check.addr ∷ ks) keys.1 in
     goes_off (IsServed w s c f (request_of_check check) c.backlog None free (parks (with_waiter c.control u check.addr) end)) (is_active (with_waiter c.control u check.addr) u) u c.epochs (parked_idle (with_waiter c.control u check.addr) u (word check.addr) one) (serves_waits k (request_of_check check) call c.backlog None a free check.addr end none)
 wait_outcome_by {w} {s} {c} {f} k check free false e none =
     answered_outcome k (request_of_check check) (FutexWait check.addr check.value) c.backlog None (asks_checked k check e) free c.control (minus 11) (sym (checker_from k check e)) refl refl refl
@@ -129,7 +129,7 @@ join_outcome {w} {s} {c} {f} k q rest free target ParkedJoin e is none comes =
     let keys = both_none (words_of c.control.waiters u) (targets_of u 0 c.control.fates) (asker_keys k u (JoinCall target) rest c.checking a) in
     let low : target < length c.control.fates = within c.control.fates target (Live None) (live_target u target (slice_get c.control.fates target) comes) in
     let one : keys_of (with_join c.control u target) u ≡ ending (0 + target) ∷ [] =
-      ap (λ ks. ks ++ targets_of u 0 (with_join c.control u target).fates) keys.0 ∙ targets_here c.control.fates u 0 target (Live (Some u)) keys.1 low (same_is u) in
+    ap (λ ks. ks ++ targets_of u 0 (with_join c.control u target).fates) keys.0 ∙ targets_here c.control.fates u 0 target (Live (Some u)) keys.1 low (same_is u) in
     goes_off (IsServed w s c f q rest c.checking free (parks (with_join c.control u target) end)) (is_active (with_join c.control u target) u) u c.epochs (parked_idle (with_join c.control u target) u (ending (0 + target)) one) (serves_joins k q (JoinCall target) rest c.checking a free target end none comes)
 join_outcome {w} {s} {c} {f} k q rest free target NoThread e is none comes =
     answered_outcome k q (JoinCall target) rest c.checking (asks_first k q rest (JoinCall target) e is) free c.control (minus 3) (sym (asker_from k q rest (JoinCall target) e is)) refl refl refl
@@ -144,7 +144,7 @@ exit_outcome {w} {s} {c} {f} k q rest free code end e is none =
     let joiner : Option ℕ = joiner_of c.control.fates u in
     let made : Served = exits_to c.control u code joiner end in
     let gone : slice_get made.control.fates u ≡ Some (Exited code (is_some joiner)) =
-      get_set_here c.control.fates u (Exited code (is_some joiner)) (Live joiner) (leaver_lives k q rest code (who_leaves k q rest code e is)) in
+    get_set_here c.control.fates u (Exited code (is_some joiner)) (Live joiner) (leaver_lives k q rest code (who_leaves k q rest code e is)) in
     goes_off (IsServed w s c f q rest c.checking free made) (is_active made.control u) u (join_all made.woken c.epochs) (gone_idle made.control u code (is_some joiner) gone) (serves_exit k q rest code free end e is none joiner refl)
 
 -- whether a request is a wait, which is checked first

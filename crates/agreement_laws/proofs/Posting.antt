@@ -57,7 +57,7 @@ shows_by w s s' queue node =
     let n : ℕ = control_node w.config in
     record {
       spots = λ y low. same_spot w s' y (spot w s y) (ap (λ m. sitting_in y (core_in m)) (node y (low_not n y low))) (ap of_threads (queue y n)) (ap of_threads (queue n y))
-        (ap of_threads (queue y (local_node w.config (host_of w.config y)))) (ap of_threads (queue (local_node w.config (host_of w.config y)) y));
+          (ap of_threads (queue y (local_node w.config (host_of w.config y)))) (ap of_threads (queue (local_node w.config (host_of w.config y)) y));
       starts = λ host u. ap (naming u) (queue n (local_node w.config host));
       exits = λ host u. ap (naming u) (queue (local_node w.config host) n);
       idle = λ host. ap idle_in (node (local_node w.config host) (local_not n host));
@@ -157,33 +157,33 @@ posted_moves {w} {s} {c} {f} k c' f' u p p' mail is_p place m sends =
     let sits : (tile : ℕ) → tile_of p ≡ Some tile → k.who tile ≡ Some u = λ tile e. k.sits u tile (ap tile_of is_p ∙ e) in
     moves k s' c' f' u p p' is_p (record {
       side_here = λ host. side_now m s' host
-        (seen_after (names u) s n change n (local_node w.config host) ∙ (cond-true (n == n) _ _ (same_is n)
-        ∙ (ap (λ (z : Side). z.starts ++ naming u (messages_to (local_node w.config host) mail)) (k.sides u host ∙ ap (side_of w u host) is_p) ∙ sends.starts host)))
-        (ap (naming u) (cond-false (local_node w.config host == n) _ _ (local_not n host)) ∙ (ap (λ (z : Side). z.exits) (k.sides u host ∙ ap (side_of w u host) is_p) ∙ sends.exits host));
+          (seen_after (names u) s n change n (local_node w.config host) ∙ (cond-true (n == n) _ _ (same_is n)
+          ∙ (ap (λ (z : Side). z.starts ++ naming u (messages_to (local_node w.config host) mail)) (k.sides u host ∙ ap (side_of w u host) is_p) ∙ sends.starts host)))
+          (ap (naming u) (cond-false (local_node w.config host == n) _ _ (local_not n host)) ∙ (ap (λ (z : Side). z.exits) (k.sides u host ∙ ap (side_of w u host) is_p) ∙ sends.exits host));
       side_there = λ x host apart. side_still w s (m.others x apart) s' host
-        (seen_after (names x) s n change n (local_node w.config host) ∙ (cond-true (n == n) _ _ (same_is n)
-        ∙ (ap (λ ys. starts_of w s host x ++ ys) (sends.others x host apart) ∙ append-nil (starts_of w s host x))))
-        (ap (naming x) (cond-false (local_node w.config host == n) _ _ (local_not n host)));
+          (seen_after (names x) s n change n (local_node w.config host) ∙ (cond-true (n == n) _ _ (same_is n)
+          ∙ (ap (λ ys. starts_of w s host x ++ ys) (sends.others x host apart) ∙ append-nil (starts_of w s host x))))
+          (ap (naming x) (cond-false (local_node w.config host == n) _ _ (local_not n host)));
       knows_here = m.knows;
       knows_there = λ x apart. (m.others x apart).caller;
       fit = m.fit;
       ended = m.ended;
       spots = λ tile low. elim (cases_Bool (is (tile_of p) tile)) [
         | inl t ↦ (
-          let at : tile_of p ≡ Some tile = some_of (tile_of p) tile t in
-          let old : spot w s tile ≡ spot_at u p = k.spots tile low ∙ (ap (spot_of k.phase) (sits tile at) ∙ ap (spot_at u) is_p) in
-          spot_posted w s mail tile low ∙ (ap (λ (z : Spot). record z { from_control = z.from_control ++ of_threads (messages_to tile mail) }) old ∙ (sends.here tile at
-          ∙ sym (cond-true (is (tile_of p') tile) _ _ (ap (λ o. is o tile) place ∙ t)))))
+            let at : tile_of p ≡ Some tile = some_of (tile_of p) tile t in
+            let old : spot w s tile ≡ spot_at u p = k.spots tile low ∙ (ap (spot_of k.phase) (sits tile at) ∙ ap (spot_at u) is_p) in
+            spot_posted w s mail tile low ∙ (ap (λ (z : Spot). record z { from_control = z.from_control ++ of_threads (messages_to tile mail) }) old ∙ (sends.here tile at
+            ∙ sym (cond-true (is (tile_of p') tile) _ _ (ap (λ o. is o tile) place ∙ t)))))
         | inr t ↦
-          spot_posted w s mail tile low
-          ∙ (ap (λ ms. record (spot w s tile) { from_control = (spot w s tile).from_control ++ ms }) (sends.elsewhere tile low t)
-          ∙ (ap (λ ms. record (spot w s tile) { from_control = ms }) (append-nil (spot w s tile).from_control)
-          ∙ sym (cond-false (is (tile_of p') tile) _ _ (ap (λ o. is o tile) place ∙ t) ∙ cond-false (is (tile_of p) tile) _ _ t)))
+            spot_posted w s mail tile low
+            ∙ (ap (λ ms. record (spot w s tile) { from_control = (spot w s tile).from_control ++ ms }) (sends.elsewhere tile low t)
+            ∙ (ap (λ ms. record (spot w s tile) { from_control = ms }) (append-nil (spot w s tile).from_control)
+            ∙ sym (cond-false (is (tile_of p') tile) _ _ (ap (λ o. is o tile) place ∙ t) ∙ cond-false (is (tile_of p) tile) _ _ t)))
       ];
       empty_seat = λ tile t. inr (sits tile (some_of (tile_of p) tile (sym (ap (λ o. is o tile) place) ∙ t)));
       idle_free = λ host tile t.
-        let o = k.idle_free host tile t in
-        (o.0, ap (λ z. is z tile) place ∙ elim (cases_Bool (is (tile_of p) tile)) [ inl v ↦ (let z = sits tile (some_of (tile_of p) tile v) in let y = o.1 in cc) | inr v ↦ v ], inr o.1);
+          let o = k.idle_free host tile t in
+          (o.0, ap (λ z. is z tile) place ∙ elim (cases_Bool (is (tile_of p) tile)) [ inl v ↦ (let z = sits tile (some_of (tile_of p) tile v) in let y = o.1 in cc) | inr v ↦ v ], inr o.1);
       idle_once = k.idle_once;
       control = m.control;
     })
@@ -202,10 +202,10 @@ pub posts_answer : (w : Setup) (u : ℕ) (h : Hart) (p : Phase) (value time limi
     → ((host : ℕ) → (side_of w u host p).exits ≡ []) → Posts w u p (told h value time limit) ((h.tile, Return value time limit) ∷ [])
 posts_answer w u h p value time limit at is_spot starts exits = record {
   here = λ tile e.
-    let same : h.tile ≡ tile = (let q : Some h.tile ≡ Some tile = sym at ∙ e in cc) in
-    ap (λ (z : Spot). record z { from_control = z.from_control ++ of_threads (messages_to tile ((h.tile, Return value time limit) ∷ [])) }) is_spot
-    ∙ (ap (λ z. record (seat u h called) { from_control = of_threads (messages_to z ((h.tile, Return value time limit) ∷ [])) }) (sym same)
-    ∙ ap (λ ms. record (seat u h called) { from_control = ms }) (sent_here h.tile value time limit));
+      let same : h.tile ≡ tile = (let q : Some h.tile ≡ Some tile = sym at ∙ e in cc) in
+      ap (λ (z : Spot). record z { from_control = z.from_control ++ of_threads (messages_to tile ((h.tile, Return value time limit) ∷ [])) }) is_spot
+      ∙ (ap (λ z. record (seat u h called) { from_control = of_threads (messages_to z ((h.tile, Return value time limit) ∷ [])) }) (sym same)
+      ∙ ap (λ ms. record (seat u h called) { from_control = ms }) (sent_here h.tile value time limit));
   elsewhere = λ tile low e. sent_there tile h.tile value time limit (sym (ap (λ o. is o tile) at) ∙ e);
   starts = λ host. ap (λ ms. ms ++ naming u (messages_to (local_node w.config host) ((h.tile, Return value time limit) ∷ []))) (starts host) ∙ naming_silent u (local_node w.config host) h.tile value time limit;
   exits = exits;
@@ -216,8 +216,8 @@ pub posts_silent : (w : Setup) (u : ℕ) (p p' : Phase) (mail : List (ℕ × Msg
     → ((host : ℕ) → (side_of w u host p).starts ≡ (side_of w u host p').starts) → ((host : ℕ) → (side_of w u host p).exits ≡ (side_of w u host p').exits) → Posts w u p p' mail
 posts_silent w u p p' mail silent unnamed same starts exits = record {
   here = λ tile e.
-    ap (λ ms. record (spot_at u p) { from_control = (spot_at u p).from_control ++ ms }) (silent tile)
-    ∙ (ap (λ ms. record (spot_at u p) { from_control = ms }) (append-nil (spot_at u p).from_control) ∙ same);
+      ap (λ ms. record (spot_at u p) { from_control = (spot_at u p).from_control ++ ms }) (silent tile)
+      ∙ (ap (λ ms. record (spot_at u p) { from_control = ms }) (append-nil (spot_at u p).from_control) ∙ same);
   elsewhere = λ tile low e. silent tile;
   starts = λ host. ap (λ ms. (side_of w u host p).starts ++ ms) (unnamed u (local_node w.config host)) ∙ (append-nil (side_of w u host p).starts ∙ starts host);
   exits = exits;

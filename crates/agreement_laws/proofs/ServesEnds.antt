@@ -72,7 +72,7 @@ unfolding after_serving
 threads_left f u code c joiner end fates =
     ap (λ (fs : List Fate). woken_threads (joiner_woken joiner code) (with_fates f.threads (slice_set fs u (Exited code (is_some joiner))) ++ [])) fates
     ∙ ap (woken_threads (joiner_woken joiner code))
-      (append-nil (with_fates f.threads (slice_set (map fate_of f.threads) u (Exited code (is_some joiner)))) ∙ one_fate f.threads u (Exited code (is_some joiner)))
+    (append-nil (with_fates f.threads (slice_set (map fate_of f.threads) u (Exited code (is_some joiner)))) ∙ one_fate f.threads u (Exited code (is_some joiner)))
 
 -- two threads turn, in either order
 crossed : {f f1 fa g : Flat} {u v : ℕ} {su sv : FlatStatus} {pu pv : Option Hart} → FlatTurns f f1 v sv pv → FlatTurns fa g v sv pv → FlatTurns f fa u su pu → (v == u) ≡ false → FlatTurns f1 g u su pu
@@ -121,21 +121,21 @@ serves_exit {w} {s} {c} {f} k q rest code free end e is none (Some v) joiner =
     let gone : FlatTurns f fa u (Gone code true) None = leaver_turns k fa q rest code true a refl in
     let turned : (u == v) ≡ false = grind (arith, nat_tests) in
     let here : (at : Option Hart) → option_map (λ t. t.status) (slice_get f.threads v) ≡ Some Parked → option_and_then place_of (slice_get f.threads v) ≡ at → FlatTurns f f1 v (Answered code) at =
-      λ at status there. turns_from (status_turns f0 f1 v Parked (Answered code) at (joiner_status f.threads u v None ∙ status) (joiner_place f.threads u v None ∙ there) refl)
-      (λ x. joiner_status f.threads u x None) (λ x. joiner_place f.threads u x None) in
+    λ at status there. turns_from (status_turns f0 f1 v Parked (Answered code) at (joiner_status f.threads u v None ∙ status) (joiner_place f.threads u v None ∙ there) refl)
+    (λ x. joiner_status f.threads u x None) (λ x. joiner_place f.threads u x None) in
     let there : FlatTurns fa g v (Answered code) place = status_turns fa g v Parked (Answered code) place (gone.other_status v turned ∙ parked) (gone.other_place v turned) threads in
     let old : slice_get (map fate_of f.threads) u ≡ Some (Live (Some v)) = ap (λ fs. slice_get fs u) (sym (fates_are k)) ∙ joiner_is c.control.fates u v joiner in
     let fates1 : map fate_of f1.threads ≡ slice_set c.control.fates u (Live None) =
-      fates_status f0.threads v (Answered code) tt (live_in f0 v Parked tt (joiner_status f.threads u v None ∙ parked))
-      ∙ (fates_joined_by f.threads u (Some v) None old ∙ ap (λ (fs : List Fate). slice_set fs u (Live None)) (sym (fates_are k))) in
+    fates_status f0.threads v (Answered code) tt (live_in f0 v Parked tt (joiner_status f.threads u v None ∙ parked))
+    ∙ (fates_joined_by f.threads u (Some v) None old ∙ ap (λ (fs : List Fate). slice_set fs u (Live None)) (sym (fates_are k))) in
     let control1 : record c.control { fates = slice_set c.control.fates u (Live None) } ≡ control_of f1 =
-      ap (λ (z : ControlData). record z { fates = slice_set c.control.fates u (Live None) }) k.control
-      ∙ ap (λ (fates : List Fate). (let d : ControlData = record { fates = fates; waiters = f.waiters; heap_break = f.heap_break; output = f.output; ended = f.ended } in d)) (sym fates1) in
+    ap (λ (z : ControlData). record z { fates = slice_set c.control.fates u (Live None) }) k.control
+    ∙ ap (λ (fates : List Fate). (let d : ControlData = record { fates = fates; waiters = f.waiters; heap_break = f.heap_break; output = f.output; ended = f.ended } in d)) (sym fates1) in
     let k1 = wakes_joiner k f1 u v code q.time joiner here control1 in
     let twice : slice_set (slice_set c.control.fates u (Live None)) u (Exited code true) ≡ slice_set c.control.fates u (Exited code true) = set_twice c.control.fates u (Live None) (Exited code true) in
     let shows : made.control ≡ control_of g = shows_made f u made (ap (map fate_of) threads
-      ∙ (fates_status fa.threads v (Answered code) tt (live_in fa v Parked tt (gone.other_status v turned ∙ parked))
-      ∙ (fates_gone f.threads u code true ∙ ap (λ (fs : List Fate). slice_set fs u (Exited code true)) (sym (fates_are k))))) in
+    ∙ (fates_status fa.threads v (Answered code) tt (live_in fa v Parked tt (gone.other_status v turned ∙ parked))
+    ∙ (fates_gone f.threads u code true ∙ ap (λ (fs : List Fate). slice_set fs u (Exited code true)) (sym (fates_are k))))) in
     let with_fates_of : List Fate → ControlData = λ fs. record c.control { fates = fs; ended = end } in
     kept_joined s (woken_mail c q.time made.woken) []
     (subst (λ (fs : List Fate). Kept w (post w (post w s (woken_mail c q.time made.woken)) []) (record c { control = with_fates_of fs; backlog = rest; free = free; epochs = left_by u (join_all made.woken c.epochs) }) g) twice

@@ -78,7 +78,7 @@ serves_waits {w} {s} {c} {f} k q call rest check a free addr end none =
     (shows_made f u made (ap (map fate_of) threads ∙ (fates_status f.threads u Parked tt (asker_lives k u call rest check a) ∙ sym (fates_are k))))
 
 -- JOINING: another thread has a joiner, and shows the same
-same_set : {B : Type 0} (h : Option Thread → B) (ts : List Thread) (n x : ℕ) (t t' : Thread) → slice_get ts n ≡ Some t → h (Some t') ≡ h (Some t) → h (slice_get (slice_set ts n t') x) ≡ h (slice_get ts x)
+pub same_set : {B : Type 0} (h : Option Thread → B) (ts : List Thread) (n x : ℕ) (t t' : Thread) → slice_get ts n ≡ Some t → h (Some t') ≡ h (Some t) → h (slice_get (slice_set ts n t') x) ≡ h (slice_get ts x)
 same_set h [] n x t t' is same = cc
 same_set h (y ∷ ys) zero zero t t' is same = same ∙ ap h (sym is)
 same_set h (y ∷ ys) zero (suc x) t t' is same = refl
@@ -146,7 +146,7 @@ serves_joins {w} {s} {c} {f} k q call rest check a free target end none join =
     let low : target < length c.control.fates = within c.control.fates target (Live None) live in
     let g0 : Flat = record f { threads = with_joiner f.threads target (Some u) } in
     let turns : FlatTurns g0 (after_serving f u made) u Parked (Some a.h) = status_turns g0 (after_serving f u made) u (status_asking a.ask) Parked (Some a.h)
-      (joiner_status f.threads target u (Some u) ∙ flat_status k u call rest check a) (joiner_place f.threads target u (Some u) ∙ flat_place k u call rest check a) threads in
+    (joiner_status f.threads target u (Some u) ∙ flat_status k u call rest check a) (joiner_place f.threads target u (Some u) ∙ flat_place k u call rest check a) threads in
     let lives : IsLiveIn (map fate_of g0.threads) u = live_in g0 u (status_asking a.ask) (lives_asking a.ask) (joiner_status f.threads target u (Some u) ∙ flat_status k u call rest check a) in
     caller_parked k (served_control c rest check free made (left_by u c.epochs)) (after_serving f u made) u call rest check a (ending (0 + target)) (record {
       backlog = refl;
@@ -155,7 +155,7 @@ serves_joins {w} {s} {c} {f} k q call rest check a free target end none join =
       own_keys = ap (λ ks. ks ++ targets_of u 0 after.fates) keys.0 ∙ targets_here c.control.fates u 0 target (Live (Some u)) keys.1 low (same_is u);
       own_reports = reports_left u c.epochs.members;
       other_keys = λ x apart. ap (λ ks. words_of c.control.waiters x ++ ks) (targets_same c.control.fates x 0 target (Live (Some u)) (λ old at.
-        let same : old ≡ Live None = out_of _ _ (sym at ∙ live) in ap (is_joiner x) same ∙ sym apart));
+          let same : old ≡ Live None = out_of _ _ (sym at ∙ live) in ap (is_joiner x) same ∙ sym apart));
       other_reports = λ x apart. reports_left_there u x c.epochs.members apart;
       ended = λ some. absurd (some none);
     }) (turns_from turns (λ x. joiner_status f.threads target x (Some u)) (λ x. joiner_place f.threads target x (Some u)))

@@ -68,7 +68,7 @@ settled_kept w s c f q rest check made outcome =
     let limits : List (ℕ × Msg) = limits_closed closes epochs in
     let k = kept_joined s (served_mail w c q made) limits (closed_kept outcome closes) in
     let same : served_mail w c q made ++ limits ≡ a.mail =
-      ap (λ (ms : List (ℕ × Msg)). ms ++ limits) (sym (append_assoc (woken_mail c q.time made.woken) (born_mail w c q.time made.born) (own_mail c q.from made.own))) in
+    ap (λ (ms : List (ℕ × Msg)). ms ++ limits) (sym (append_assoc (woken_mail c q.time made.woken) (born_mail w c q.time made.born) (own_mail c q.from made.own))) in
     kept_posted s a.mail a.control (subst (λ (ms : List (ℕ × Msg)). Kept w (post w s ms) a.control (after_serving f q.thread made)) same k)
 
 -- ON THE FLAT MACHINE
@@ -124,8 +124,7 @@ first_served {w} {s} {c} {f} k q rest orderly e none some plain =
     let low : freest_host c.free < w.config.hosts = subst (λ n. freest_host c.free < n) orderly.hosts (freest_in_range c.free (subst (λ n. 0 < n) (sym orderly.hosts) some)) in
     let closing = closing_by w c.control q 0 rest orderly.numbers (All-tail (IsAsked w c.control) q rest asked) apart.0 in
     let asks = asked_status k q rest q.request e refl in
-    let kept = settled_kept w s c f q rest c.checking made (request_outcome k q rest (free_left w q.from q.request (free_born made.born c.free)) q.request e refl plain none low) in
-    (
+    let kept = settled_kept w s c f q rest c.checking made (request_outcome k q rest (free_left w q.from q.request (free_born made.born c.free)) q.request e refl plain none low) in (
       g,
       legal_request k u asks.0 q.request 0 asks.1 asks.2 none (no_word f q.request plain),
       subst (λ z. KeptBy w s (settled w (record c { backlog = rest }) q z) g) (sym closing) kept,
@@ -143,8 +142,7 @@ check_served {w} {s} {c} {f} k check held orderly e none word =
     let checked : IsCheckable w c.control c.backlog check = subst (IsCheckableIfAny w c.control c.backlog) e orderly.checked in
     let closing = closing_by w c.control q held c.backlog orderly.numbers orderly.asked checked.alone in
     let a = asks_checked k check e in
-    let kept = settled_kept w s c f q c.backlog None made (wait_outcome k check (free_left w q.from q.request (free_born made.born c.free)) held e none) in
-    (
+    let kept = settled_kept w s c f q c.backlog None made (wait_outcome k check (free_left w q.from q.request (free_born made.born c.free)) held e none) in (
       g,
       legal_request k u (status_asking a.ask) request held (flat_status k u (FutexWait check.addr check.value) c.backlog None a) (asks_call a.ask a.full ∙ ap (λ z. Some (CallRequest z)) a.asks) none word,
       subst (λ z. KeptBy w s (settled w (record c { checking = None }) q z) g) (sym closing) kept,

@@ -51,10 +51,10 @@ taken_to_control w s x rest low =
     let n : ℕ = control_node w.config in
     record {
       spots = λ y high apart. same_spot w (with_queue s x n rest) y (spot w s y) refl
-        (ap of_threads (taken_there s x n rest y n (turned x y apart)))
-        (ap of_threads (taken_there s x n rest n y (above n x low)))
-        (ap of_threads (taken_there s x n rest y (local_node w.config (host_of w.config y)) (turned x y apart)))
-        (ap of_threads (taken_there s x n rest (local_node w.config (host_of w.config y)) y (past n x (host_of w.config y) low)));
+          (ap of_threads (taken_there s x n rest y n (turned x y apart)))
+          (ap of_threads (taken_there s x n rest n y (above n x low)))
+          (ap of_threads (taken_there s x n rest y (local_node w.config (host_of w.config y)) (turned x y apart)))
+          (ap of_threads (taken_there s x n rest (local_node w.config (host_of w.config y)) y (past n x (host_of w.config y) low)));
       starts = λ host u. ap (naming u) (taken_there s x n rest n (local_node w.config host) (above n x low));
       exits = λ host u. ap (naming u) (taken_there s x n rest (local_node w.config host) n (past n x host low));
       idle = λ host. refl;
@@ -83,8 +83,8 @@ taken_moves {w} {s} {c} {f} k c' x u rest p p' low alone is_p at at' starts exit
     let here : spot w s' x ≡ spot_at u p' = spot_taken w s x rest (spot_at u p) (spot_at u p') low alone (k.spots x low ∙ (ap (spot_of k.phase) seat ∙ ap (spot_at u) is_p)) same in
     moves k s' c' f u p p' is_p (record {
       side_here = λ host. side_now m s' host
-        (elsewhere.starts host u ∙ (ap (λ (z : Side). z.starts) (k.sides u host ∙ ap (side_of w u host) is_p) ∙ starts host))
-        (elsewhere.exits host u ∙ (ap (λ (z : Side). z.exits) (k.sides u host ∙ ap (side_of w u host) is_p) ∙ exits host));
+          (elsewhere.starts host u ∙ (ap (λ (z : Side). z.starts) (k.sides u host ∙ ap (side_of w u host) is_p) ∙ starts host))
+          (elsewhere.exits host u ∙ (ap (λ (z : Side). z.exits) (k.sides u host ∙ ap (side_of w u host) is_p) ∙ exits host));
       side_there = λ y host apart. side_still w s (m.others y apart) s' host (elsewhere.starts host y) (elsewhere.exits host y);
       knows_here = m.knows;
       knows_there = λ y apart. (m.others y apart).caller;
@@ -231,19 +231,19 @@ call_comes {w} {s} {c} {f} k x u time call rest low first callers placed o ended
           control = k.control;
         }))
         | None ↦ λ ended. subst (λ b. KeptAfter w (with_queue s x (control_node w.config) rest) (if b then quiet c' else quiet c) f) (sym (ap (λ b. b && admits c u) placed ∙ admits_it))
-          (quietly c' (taken_moves k c' x u rest p (asking h ask time) low r.5 is_p (ap Some tile) (ap Some tile) (λ host. refl) (λ host. refl) refl (record {
-          status = λ host. ap (λ (z : Side). z.status) (old host);
-          place = λ host. ap (λ (z : Side). z.place) (old host);
-          keys = λ host. ap (λ (z : Side). z.keys) (old host);
-          backlog = λ host. more_here q c.backlog (ap (λ (z : Side). z.backlog) (old host)) ∙ ap (λ z. z ∷ []) is_q;
-          checked = λ host. ap (λ (z : Side). z.checked) (old host);
-          reports = λ host. ap (λ (z : Side). z.reports) (old host);
-          others = λ y apart. record { status = refl; place = refl; keys = refl; backlog = more_there q y c.backlog apart; checked = refl; reports = refl; caller = other_caller c.callers u y x apart };
-          knows = set_caller c.callers u x known ∙ sym tile;
-          fit = fit;
-          ended = λ some. some;
-          control = k.control;
-        })))
+            (quietly c' (taken_moves k c' x u rest p (asking h ask time) low r.5 is_p (ap Some tile) (ap Some tile) (λ host. refl) (λ host. refl) refl (record {
+              status = λ host. ap (λ (z : Side). z.status) (old host);
+              place = λ host. ap (λ (z : Side). z.place) (old host);
+              keys = λ host. ap (λ (z : Side). z.keys) (old host);
+              backlog = λ host. more_here q c.backlog (ap (λ (z : Side). z.backlog) (old host)) ∙ ap (λ z. z ∷ []) is_q;
+              checked = λ host. ap (λ (z : Side). z.checked) (old host);
+              reports = λ host. ap (λ (z : Side). z.reports) (old host);
+              others = λ y apart. record { status = refl; place = refl; keys = refl; backlog = more_there q y c.backlog apart; checked = refl; reports = refl; caller = other_caller c.callers u y x apart };
+              knows = set_caller c.callers u x known ∙ sym tile;
+              fit = fit;
+              ended = λ some. some;
+              control = k.control;
+            })))
       ] ended
 
 -- A TRAP
@@ -278,19 +278,19 @@ trap_comes {w} {s} {c} {f} k x u cause pc rest low first o ended =
         control = k.control;
       }))
       | None ↦ λ ended. subst (λ b. KeptAfter w (with_queue s x (control_node w.config) rest) (if b then quiet c' else quiet c) f) (sym admits_it)
-        (quietly c' (taken_moves k c' x u rest p (trapping h cause) low r.4 is_p (ap Some tile) (ap Some tile) (λ host. refl) (λ host. refl) refl (record {
-        status = λ host. ap (λ (z : Side). z.status) (old host);
-        place = λ host. ap (λ (z : Side). z.place) (old host);
-        keys = λ host. ap (λ (z : Side). z.keys) (old host);
-        backlog = λ host. more_here q c.backlog (ap (λ (z : Side). z.backlog) (old host)) ∙ ap (λ z. z ∷ []) is_q;
-        checked = λ host. ap (λ (z : Side). z.checked) (old host);
-        reports = λ host. ap (λ (z : Side). z.reports) (old host);
-        others = λ y apart. record { status = refl; place = refl; keys = refl; backlog = more_there q y c.backlog apart; checked = refl; reports = refl; caller = refl };
-        knows = tt;
-        fit = fit;
-        ended = λ some. some;
-        control = k.control;
-      })))
+          (quietly c' (taken_moves k c' x u rest p (trapping h cause) low r.4 is_p (ap Some tile) (ap Some tile) (λ host. refl) (λ host. refl) refl (record {
+            status = λ host. ap (λ (z : Side). z.status) (old host);
+            place = λ host. ap (λ (z : Side). z.place) (old host);
+            keys = λ host. ap (λ (z : Side). z.keys) (old host);
+            backlog = λ host. more_here q c.backlog (ap (λ (z : Side). z.backlog) (old host)) ∙ ap (λ z. z ∷ []) is_q;
+            checked = λ host. ap (λ (z : Side). z.checked) (old host);
+            reports = λ host. ap (λ (z : Side). z.reports) (old host);
+            others = λ y apart. record { status = refl; place = refl; keys = refl; backlog = more_there q y c.backlog apart; checked = refl; reports = refl; caller = refl };
+            knows = tt;
+            fit = fit;
+            ended = λ some. some;
+            control = k.control;
+          })))
     ] ended
 
 -- A REPORT is noted, and the epoch may be advanced
@@ -324,18 +324,18 @@ report_comes {w} {s} {c} {f} k x u rest low first o ended =
         control = k.control;
       }))
       | None ↦ λ ended.
-        let k1 : Kept w s' noted_control f = taken_moves k noted_control x u rest p (on h (stops work noted)) low r.4 is_p (ap Some tile) (ap Some tile) (λ host. refl) (λ host. refl) refl (record {
-          status = λ host. ap (λ (z : Side). z.status) (old host);
-          place = λ host. ap (λ (z : Side). z.place) (old host);
-          keys = λ host. ap (λ (z : Side). z.keys) (old host);
-          backlog = λ host. ap (λ (z : Side). z.backlog) (old host);
-          checked = λ host. ap (λ (z : Side). z.checked) (old host);
-          reports = λ host. reports_made u x c.epochs.members ∙ (ap (λ (z : Side). map (now_at x) z.reports) (old host) ∙ ap (λ z. Some z ∷ []) (sym tile));
-          others = λ y apart. record { status = refl; place = refl; keys = refl; backlog = refl; checked = refl; reports = reports_made_there u x y c.epochs.members apart; caller = refl };
-          knows = tt;
-          fit = fit;
-          ended = λ some. some;
-          control = k.control;
-        }) in
-        kept_posted s' a.mail a.control (advance_kept k1 (standing noted_control.epochs.members))
+          let k1 : Kept w s' noted_control f = taken_moves k noted_control x u rest p (on h (stops work noted)) low r.4 is_p (ap Some tile) (ap Some tile) (λ host. refl) (λ host. refl) refl (record {
+            status = λ host. ap (λ (z : Side). z.status) (old host);
+            place = λ host. ap (λ (z : Side). z.place) (old host);
+            keys = λ host. ap (λ (z : Side). z.keys) (old host);
+            backlog = λ host. ap (λ (z : Side). z.backlog) (old host);
+            checked = λ host. ap (λ (z : Side). z.checked) (old host);
+            reports = λ host. reports_made u x c.epochs.members ∙ (ap (λ (z : Side). map (now_at x) z.reports) (old host) ∙ ap (λ z. Some z ∷ []) (sym tile));
+            others = λ y apart. record { status = refl; place = refl; keys = refl; backlog = refl; checked = refl; reports = reports_made_there u x y c.epochs.members apart; caller = refl };
+            knows = tt;
+            fit = fit;
+            ended = λ some. some;
+            control = k.control;
+          }) in
+          kept_posted s' a.mail a.control (advance_kept k1 (standing noted_control.epochs.members))
     ] ended

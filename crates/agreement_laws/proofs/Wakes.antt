@@ -235,7 +235,7 @@ joiner_woken {w} {s} {c} {f} k f' u v code time e gets control =
       members = refl;
       keys = ap (λ ks. ks ++ targets_of v 0 (slice_set c.control.fates u (Live None))) words ∙ gone.0;
       other_keys = λ x apart. ap (λ ks. words_of c.control.waiters x ++ ks) (targets_same c.control.fates x 0 u (Live None) (λ old at.
-        let same : old ≡ Live (Some v) = (let q : Some old ≡ Some (Live (Some v)) = sym at ∙ is in cc) in ap (is_joiner x) same ∙ joins_not v x apart));
+          let same : old ≡ Live (Some v) = (let q : Some old ≡ Some (Live (Some v)) = sym at ∙ is in cc) in ap (is_joiner x) same ∙ joins_not v x apart));
       ended = refl;
     }) gets control
 
