@@ -157,7 +157,7 @@ changed_made {w} {s} {c} {f} k s' x u t' action new value value' nodes stand sea
 -- and an event that commits nothing, where the tile's reservation stays
 pub silent_made : {w : Setup} {s : State Node Msg} {c : Control} {f : Flat} (k : Kept w s c f) (s' : State Node Msg) (x : ℕ) (t t' : TileData) (value value' : ℕ → LineData)
     → ReservationsStand s f → s.node x ≡ Tile t → s'.node x ≡ Tile t' → ((y : ℕ) → (y == x) ≡ false → s'.node y ≡ s.node y)
-    → t.core.status ≢ Idle → t'.core.thread ≡ t.core.thread → ((span : Span) → t'.core.reservation ≡ Some span → t.core.reservation ≡ Some span)
+    → (t'.core.status ≢ Idle → t.core.status ≢ Idle) → t'.core.thread ≡ t.core.thread → ((span : Span) → t'.core.reservation ≡ Some span → t.core.reservation ≡ Some span)
     → ((line : ℕ) → value' line ≡ value line) → AgreesOn f.memory value → Kept w s' c f → Made w s' c f value' None
 silent_made {w} {s} {c} {f} k s' x t t' value value' stand is here there busy same fewer values agrees kept = record {
   flat = f;
@@ -168,7 +168,7 @@ silent_made {w} {s} {c} {f} k s' x t t' value value' stand is here there busy sa
         let one : Tile t' ≡ Tile z = sym here ∙ (ap s'.node (sym (equal y x e)) ∙ at) in
         let tile : t' ≡ z = cc in
         let found' : slice_get f.threads t.core.thread ≡ Some th = ap (slice_get f.threads) (sym same ∙ ap (λ (q : TileData). q.core.thread) tile) ∙ found in
-        λ span has. stand x t th is busy found' span (fewer span (ap (λ (q : TileData). q.core.reservation) tile ∙ has))
+        λ span has. stand x t th is (busy (subst (λ (q : TileData). q.core.status ≢ Idle) (sym tile) busy')) found' span (fewer span (ap (λ (q : TileData). q.core.reservation) tile ∙ has))
     | inr far ↦ stand y z th (sym (there y far) ∙ at) busy' found
   ];
   bytes = same_bytes f.memory value value' values agrees;

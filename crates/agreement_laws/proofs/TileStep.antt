@@ -85,7 +85,7 @@ pub silent_act : {w : Setup} {s : State Node Msg} {value : ℕ → LineData} {f 
 silent_act {w} {s} {value} {f} a x t act is busy none thread reservation values kept = record {
   made = subst (λ o. Made w (changed s x (change_of (of_tile act))) a.whole.server f (values_after w s (Step x) value) o) (sym none)
       (silent_made a.whole.threads (changed s x (change_of (of_tile act))) x t act.tile value (values_after w s (Step x) value) a.whole.stand is (cond-true (x == x) _ _ (same_is x))
-      (λ y far. node_other s x (change_of (of_tile act)) y far) busy thread (λ span e. sym reservation ∙ e) values a.whole.bytes kept);
+      (λ y far. node_other s x (change_of (of_tile act)) y far) (λ some. busy) thread (λ span e. sym reservation ∙ e) values a.whole.bytes kept);
 }
 
 pub changed_act : {w : Setup} {s : State Node Msg} {value : ℕ → LineData} {f : Flat} (a : All w s value f) (x : ℕ) (t : TileData) (act : Act) (action : Action) (new : Thread → Thread) → x < w.config.tiles → s.node x ≡ Tile t → t.core.status ≢ Idle
