@@ -1,77 +1,57 @@
 -- An access on the flat machine and at its tile: by a step that has its line, or when the line comes.
-use Rattle.std.proofs.Common.{◌≡◌, ◌≢◌, ℕ, zero, suc, ◌+◌, ◌<◌, ◌≤◌, Bool, true, false, cond, List, [], ◌∷◌, ◌++◌, length, map, slice_get, slice_set, Option, Some, None, refl, sym, ap, ◌∙◌, arith, ◌⊎◌, inl, inr, subst}
+use Rattle.std.proofs.Common.{◌≡◌, ◌≢◌, ℕ, zero, suc, ◌+◌, ◌<◌, ◌≤◌, true, false, List, [], ◌∷◌, map, slice_get, slice_set, Option, Some, None, refl, sym, ap, ◌∙◌, arith, inl, inr, subst}
 use Rattle.std.proofs.lemmas.Bool.Decides.{nat_tests}
-use Rattle.std.proofs.lemmas.Bool.{cases_Bool, cond-true, cond-false}
-use Rattle.std.specs.Prelude.{◌/◌, ◌%◌, ◌==◌, if◌then◌else◌, option_and_then}
+use Rattle.std.specs.Prelude.{◌/◌, ◌%◌, ◌==◌, option_and_then}
 use Rattle.std.specs.Option.{option_map, option_map_or}
 use Rattle.std.specs.FinMap.{contains_key}
 use Rattle.sim_base.specs.declared.actions.Action.TheVariants.{Exec}
 use Rattle.sim_base.specs.declared.lines.LineData.{LineData}
-use Rattle.sim_base.specs.Numbering.{control_node, local_node, host_of}
 use Rattle.rv_exec.specs.declared.access.Done.{Done}
-use Rattle.rv_exec.specs.Access.{Asked, finish_of}
+use Rattle.rv_exec.specs.Access.{Asked}
 use Rattle.rv_exec.specs.Registers.{with_register}
 use Rattle.rv_hart.specs.declared.reservations.Span.{Span}
 use Rattle.rv_hart.specs.Reservation.{span_of, reserved}
 use Rattle.rv_hart.specs.Start.{next_pc}
-use Rattle.rv_hart.specs.Step.{next_step}
 use Rattle.elf_image.specs.Layout.{Setup}
 use Rattle.wire_msg.specs.declared.messages.Msg.{Msg}
+use Rattle.wire_msg.specs.declared.lines.Want.TheVariants.{Write as ToWrite}
 use Rattle.serving.specs.ControlData.{ControlData}
 use Rattle.serving.specs.declared.control_data.Fate.{Fate}
 use Rattle.flat_machine.specs.declared.threads.Thread.{Thread}
 use Rattle.flat_machine.specs.declared.threads.Status.TheVariants.{Ready}
 use Rattle.flat_machine.specs.State.{State as Flat}
 use Rattle.flat_machine.specs.Reservation.{without_reservation, others_end}
-use Rattle.flat_machine.specs.Serving.{fate_by, fate_of, control_of}
-use Rattle.flat_machine.specs.Action.{Change, step_of, executed_by_step, with_change, accessed, completed, written_memory, written_span, act}
-use Rattle.tile_cache.specs.declared.ways.Hold.{Hold}
-use Rattle.tile_cache.specs.declared.ways.Hold.TheVariants.{S, M}
-use Rattle.tile_cache.specs.declared.ways.Way.{Way}
-use Rattle.tile_cache.specs.Cache.{way_of, touched}
-use Rattle.tile_cache.specs.Copy.{copy_of, held_as, copy_in}
-use Rattle.tile_core.specs.declared.cores.Status.TheVariants.{Idle, Run}
-use Rattle.tile_core.specs.declared.plans.Plan.TheVariants.{Access}
-use Rattle.tile_core.specs.Core.{line_at}
-use Rattle.tile_core.specs.Plan.{plan_by, plan_of}
-use Rattle.tile_node.specs.Tile.{Tile as TileData, Act, suits, done_on, access_cost, with_access, one_more, is_write}
-use Rattle.tile_node.specs.Step.{accesses, accesses_by, misses}
+use Rattle.flat_machine.specs.Serving.{fate_of, control_of}
+use Rattle.flat_machine.specs.Action.{step_of, executed_by_step, with_change, accessed, completed, written_memory, written_span, act}
+use Rattle.tile_node.specs.Tile.{Tile as TileData, done_on, access_want}
 use Rattle.control_server.specs.Control.{Control}
-use Rattle.event_journal.specs.Rules.{Change as NodeChange}
-use Rattle.event_journal.specs.State.{State, messages_to, changed}
+use Rattle.event_journal.specs.State.{State}
 use Rattle.node_machine.specs.declared.nodes.Node.{Node}
 use Rattle.node_machine.specs.declared.nodes.Node.TheVariants.{Tile}
-use Rattle.node_machine.specs.Machine.{change_of, of_tile}
-use Rattle.coherence_laws.specs.Coherence.{HasData}
-use Rattle.agreement_laws.specs.Agreement.{StandsFor}
-use Rattle.agreement_laws.specs.Seen.{is_of_threads, of_threads}
-use Rattle.agreement_laws.specs.Phases.{Hart, runs, on, tile_of}
+use Rattle.agreement_laws.specs.Phases.{Hart, runs, on}
 use Rattle.agreement_laws.specs.Sides.{side_of, place_of}
-use Rattle.agreement_laws.specs.Spots.{running, Sitting, stance_in, sitting_in, core_in, Spot, spot, spot_at, spot_of}
+use Rattle.agreement_laws.specs.Spots.{spot, spot_at}
 use Rattle.agreement_laws.specs.Kept.{Kept}
 use Rattle.agreement_laws.specs.Whole.{Memory, AgreesOn, StandsToo}
 use Rattle.agreement_laws.proofs.Lines.{IsWhole}
 use Rattle.agreement_laws.proofs.Moves.{same_is}
-use Rattle.agreement_laws.proofs.Reading.{tile_shows}
-use Rattle.agreement_laws.proofs.Threads.{get_set_here, get_set_there, others_here, others_there}
-use Rattle.agreement_laws.proofs.Steps.{IsExecuted, plan_executes, line_after, AccessAgrees, access_agrees}
-use Rattle.agreement_laws.proofs.Views.{seen_stays}
+use Rattle.agreement_laws.proofs.Threads.{get_set_here, others_here, others_there}
+use Rattle.agreement_laws.proofs.Steps.{line_after, AccessAgrees, access_agrees}
 use Rattle.agreement_laws.proofs.AtTile.{OthersStay, stays_moves}
-use Rattle.agreement_laws.proofs.LocalStep.{above, past, queue_other, changed_elsewhere, runs_here, exec_is, fates_kept, one_changes, same_spot}
+use Rattle.agreement_laws.proofs.LocalStep.{exec_is, fates_kept, one_changes}
 use Rattle.tile_node.proofs.Facts.{writes_only}
 use Rattle.rv_exec.specs.declared.access.AccessOp.{AccessOp}
 use Rattle.rv_exec.specs.declared.access.AccessOp.TheVariants.{Load, Store, Lr, Sc, Amo}
 use Rattle.rv_hart.specs.Reservation.{reserved_by}
-use Rattle.tile_node.specs.Tile.{is_write}
 use Rattle.flat_machine.specs.Reservation.{share_byte}
 use Rattle.coherence_laws.specs.Part.{copy_at}
 use Rattle.coherence_laws.specs.Coherence.{IsWritable, OneWriterOrReaders}
 use Rattle.coherence_laws.proofs.Holds.{IsNodeOf}
 use Rattle.agreement_laws.specs.Phases.{Going, status_going}
 use Rattle.agreement_laws.specs.Sides.{reports_going}
-use Rattle.agreement_laws.specs.Whole.{IsHeld, ReservationsHeld, ReservationsStand}
+use Rattle.agreement_laws.specs.Whole.{ReservationsHeld, ReservationsStand}
 use Rattle.agreement_laws.proofs.Threads.{share_apart}
-use Rattle.agreement_laws.proofs.Stand.{Others, change_others, IsAway, stand_after, Made, same_bytes}
+use Rattle.agreement_laws.proofs.Stand.{change_others, IsAway, stand_after, Made, same_bytes}
 use Rattle.agreement_laws.proofs.AtTile.{Elsewhere}
 use Rattle.agreement_laws.proofs.GoingOn.{on_thread}
 use Rattle.agreement_laws.proofs.Sending.{place_is}
@@ -182,7 +162,7 @@ written_is access (Some value) bytes e = (value, refl, (let same : span_of acces
 
 -- what an access writes is in a line that its tile has to write, so no other tile has a reservation in that line
 access_away : (s s' : State Node Msg) (x : ℕ) (access : Asked) (line : LineData) → ReservationsHeld s → ((k : ℕ) → OneWriterOrReaders s' k) → ((y : ℕ) → (y == x) ≡ false → s'.node y ≡ s.node y)
-    → access.addr % 64 + access.size ≤ 64 → (is_write access.op ≡ true → IsWritable (copy_at (s'.node x) (access.addr / 64))) → IsAway s x (written_span access (done_on access line).write)
+    → access.addr % 64 + access.size ≤ 64 → (access_want access.op ≡ ToWrite → IsWritable (copy_at (s'.node x) (access.addr / 64))) → IsAway s x (written_span access (done_on access line).write)
 access_away s s' x access line held writer there room writes = record {
   away = λ y t span bytes far is has written.
       let made = written_is access (done_on access line).write bytes written in
@@ -201,7 +181,7 @@ access_away s s' x access line held writer there room writes = record {
 
 pub accessed_made : {w : Setup} {s : State Node Msg} {c : Control} {f : Flat} (k : Kept w s c f) (s' : State Node Msg) (x u : ℕ) (t' : TileData) (access : Asked) (value value' : ℕ → LineData) (before : Option Span)
     → ((y : ℕ) → IsNodeOf w y (s.node y)) → ReservationsHeld s → ReservationsStand s f → k.who x ≡ Some u → s'.node x ≡ Tile t' → ((y : ℕ) → (y == x) ≡ false → s'.node y ≡ s.node y)
-    → ((line : ℕ) → OneWriterOrReaders s' line) → access.addr % 64 + access.size ≤ 64 → (is_write access.op ≡ true → IsWritable (copy_at (s'.node x) (access.addr / 64)))
+    → ((line : ℕ) → OneWriterOrReaders s' line) → access.addr % 64 + access.size ≤ 64 → (access_want access.op ≡ ToWrite → IsWritable (copy_at (s'.node x) (access.addr / 64)))
     → t'.core.thread ≡ u → t'.core.reservation ≡ reserved access before → ((th : Thread) → slice_get f.threads u ≡ Some th → StandsToo before th.reservation)
     → ((line : ℕ) → value' line ≡ line_after value access line) → Accessed w s' c f value u access → Made w s' c f value' (Some (Exec u))
 accessed_made {w} {s} {c} {f} k s' x u t' access value value' before nodes held stand seat here there writer room writes same reservation too values made =

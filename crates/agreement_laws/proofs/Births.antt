@@ -1,7 +1,5 @@
 -- Threads that are born, that are joined, and that end: by their exit, or by a trap, which ends the program.
-use Rattle.std.proofs.Common.{◌≡◌, ◌≢◌, ℕ, zero, suc, ◌+◌, ◌<◌, Bool, true, false, List, [], ◌∷◌, ◌++◌, length, map, slice_get, slice_set, Option, Some, None, refl, sym, ap, ◌∙◌, arith, inl, inr, subst}
-use Rattle.std.proofs.lemmas.Bool.Decides.{nat_tests}
-use Rattle.std.proofs.lemmas.Bool.{cases_Bool}
+use Rattle.std.proofs.Common.{◌≡◌, ◌≢◌, ℕ, zero, suc, ◌<◌, Bool, true, false, List, [], ◌∷◌, ◌++◌, length, map, slice_get, slice_set, Option, Some, None, refl, sym, ap, ◌∙◌, subst}
 use Rattle.std.proofs.lemmas.List.{length-map}
 use Rattle.std.specs.Prelude.{◌==◌, filter, slice_index, option_and_then}
 use Rattle.std.specs.Option.{option_map}
@@ -13,11 +11,11 @@ use Rattle.wire_msg.specs.declared.messages.Msg.{Msg}
 use Rattle.wire_msg.specs.declared.messages.Msg.TheVariants.{Start}
 use Rattle.serving.specs.declared.control_data.Fate.{Fate}
 use Rattle.serving.specs.declared.control_data.Fate.TheVariants.{Live, Exited}
-use Rattle.serving.specs.declared.control_data.Request.TheVariants.{Call as CallRequest, Exit as ExitRequest, Trap as TrapRequest}
+use Rattle.serving.specs.declared.control_data.Request.TheVariants.{Exit as ExitRequest, Trap as TrapRequest}
 use Rattle.serving.specs.ControlData.{ControlData, is_joiner}
 use Rattle.flat_machine.specs.declared.threads.Thread.{Thread}
 use Rattle.flat_machine.specs.declared.threads.Status.{Status as FlatStatus}
-use Rattle.flat_machine.specs.declared.threads.Status.TheVariants.{Left, Gone, Trapped as FlatTrapped}
+use Rattle.flat_machine.specs.declared.threads.Status.TheVariants.{Gone}
 use Rattle.flat_machine.specs.State.{State as Flat, new_thread, with_status}
 use Rattle.flat_machine.specs.Serving.{fate_by, fate_of, control_of}
 use Rattle.flat_machine.proofs.ServingLemmas.{fates_gone}
@@ -25,10 +23,9 @@ use Rattle.control_server.specs.Control.{Control, Waiting, waits as is_by}
 use Rattle.control_server.specs.Serve.{joined_by, left_by}
 use Rattle.event_journal.specs.State.{State}
 use Rattle.node_machine.specs.declared.nodes.Node.{Node}
-use Rattle.agreement_laws.specs.Phases.{Hart, Work, executes, gathers, Going, runs, misses, writes, misses_byte, stops, probes, Ask, plainly, by_write, Phase, unborn, sent, on, calling, asking, lost, trapping, trapped, exiting, over, tile_of, status_working, status_going, status_asking}
-use Rattle.agreement_laws.specs.Sides.{Side, side, side_of, plain, place_of, targets_of, keys_of, checked_of, reports_of}
-use Rattle.agreement_laws.specs.Kept.{KnowsTile, Fit, Kept}
-use Rattle.agreement_laws.proofs.Moves.{equal, same_is}
+use Rattle.agreement_laws.specs.Phases.{Hart, Work, executes, gathers, Going, runs, misses, writes, misses_byte, stops, probes, Ask, plainly, by_write, Phase, unborn, sent, on, calling, asking, lost, trapping, trapped, exiting, over, status_working, status_going, status_asking}
+use Rattle.agreement_laws.specs.Sides.{Side, side, side_of, place_of, keys_of}
+use Rattle.agreement_laws.specs.Kept.{Fit, Kept}
 use Rattle.agreement_laws.proofs.Joins.{words_of, targets_same, targets_more}
 use Rattle.agreement_laws.proofs.Threads.{get_map, get_last}
 use Rattle.agreement_laws.proofs.Reporting.{reports_joined, reports_joined_there, reports_left, reports_left_there}

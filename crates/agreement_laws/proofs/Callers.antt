@@ -1,37 +1,32 @@
 -- What becomes of a thread whose request is served: it is answered, parked, or gets no answer; and the check of a futex wait.
-use Rattle.std.proofs.Common.{◌≡◌, ◌≢◌, ℕ, ◌+◌, ◌<◌, Bool, true, false, List, [], ◌∷◌, ◌++◌, slice_get, Option, Some, None, refl, sym, ap, ◌∙◌, arith, inl, inr, subst}
+use Rattle.std.proofs.Common.{◌≡◌, ◌≢◌, ℕ, ◌<◌, false, List, [], ◌∷◌, slice_get, Option, Some, None, refl, sym, ap, ◌∙◌, arith, inl, inr, subst}
 use Rattle.std.proofs.lemmas.Bool.Decides.{nat_tests}
 use Rattle.std.proofs.lemmas.Bool.{cases_Bool}
-use Rattle.std.specs.Prelude.{◌==◌, ◌/◌, filter, slice_index, option_and_then}
+use Rattle.std.specs.Prelude.{◌==◌, filter, slice_index, option_and_then}
 use Rattle.std.specs.Option.{option_map}
-use Rattle.sim_base.specs.Numbering.{control_node, local_node, home_of}
 use Rattle.elf_image.specs.Layout.{Setup}
 use Rattle.wire_msg.specs.declared.calls.Call.{Call as CallOf}
 use Rattle.wire_msg.specs.declared.calls.Call.TheVariants.{FutexWait}
 use Rattle.wire_msg.specs.declared.messages.Msg.{Msg}
 use Rattle.wire_msg.specs.declared.messages.Msg.TheVariants.{Return, GetS}
-use Rattle.sim_base.specs.declared.ends.End.{End}
-use Rattle.sim_base.specs.declared.ends.Cause.{Cause}
-use Rattle.serving.specs.declared.control_data.Request.TheVariants.{Call as CallRequest, Exit as ExitRequest, Trap as TrapRequest}
-use Rattle.serving.specs.ControlData.{ControlData}
+use Rattle.serving.specs.declared.control_data.Request.TheVariants.{Call as CallRequest}
 use Rattle.flat_machine.specs.declared.threads.Thread.{Thread}
 use Rattle.flat_machine.specs.declared.threads.Status.{Status as FlatStatus}
 use Rattle.flat_machine.specs.declared.threads.Status.TheVariants.{Answered, Parked}
 use Rattle.flat_machine.specs.State.{State as Flat, with_status}
 use Rattle.flat_machine.specs.Serving.{control_of}
 use Rattle.control_server.specs.Control.{Control, Waiting, Check, waits as is_by}
-use Rattle.control_server.specs.Serve.{line_at}
 use Rattle.event_journal.specs.State.{State, messages_to}
 use Rattle.node_machine.specs.declared.nodes.Node.{Node}
 use Rattle.agreement_laws.specs.Seen.{of_threads, naming}
-use Rattle.agreement_laws.specs.Phases.{Hart, Ask, plainly, by_write, call_of, Phase, asking, checking, waits, lost, told, trapping, trapped, exiting, tile_of, Key, status_asking}
+use Rattle.agreement_laws.specs.Phases.{Hart, Ask, plainly, by_write, call_of, Phase, asking, checking, waits, lost, told, tile_of, Key, status_asking}
 use Rattle.agreement_laws.specs.Sides.{Side, side, side_of, plain, place_of, keys_of, checked_of, reports_of, asked}
 use Rattle.agreement_laws.specs.Spots.{spot_at, seat, called}
 use Rattle.agreement_laws.specs.Kept.{KnowsTile, IsFull, Fit, Kept}
-use Rattle.agreement_laws.proofs.Moves.{fit_later, equal, same_is}
+use Rattle.agreement_laws.proofs.Moves.{fit_later, same_is}
 use Rattle.agreement_laws.proofs.Threads.{status_here, status_there}
 use Rattle.agreement_laws.proofs.Answering.{who_asks}
-use Rattle.agreement_laws.proofs.Posting.{post, Posts, SameOf, Turns, side_still, posted_moves, posts_answer, posts_silent}
+use Rattle.agreement_laws.proofs.Posting.{post, Posts, SameOf, side_still, posted_moves, posts_answer, posts_silent}
 
 -- WHERE EVERY THREAD SHOWS THE SAME
 pub kept_as : {w : Setup} {s : State Node Msg} {c : Control} {f : Flat} (k : Kept w s c f) (c' : Control) (f' : Flat) → ((x : ℕ) → SameOf c c' f f' x) → (c.control.ended ≢ None → c'.control.ended ≢ None) → c'.control ≡ control_of f'

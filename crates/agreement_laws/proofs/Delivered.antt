@@ -1,30 +1,27 @@
 -- Every delivery to a tile of a message about no line: what it commits is legal on the flat machine, and all is kept.
-use Rattle.std.proofs.Common.{◌≡◌, ◌≢◌, ℕ, ◌+◌, ◌-◌, ◌<◌, ◌&&◌, Bool, true, false, List, [], ◌∷◌, ◌++◌, Option, Some, None, refl, sym, ap, ◌∙◌, arith, inl, inr, subst}
+use Rattle.std.proofs.Common.{◌≡◌, ◌≢◌, ℕ, ◌+◌, ◌-◌, ◌<◌, ◌&&◌, Bool, true, false, List, [], ◌∷◌, Some, None, refl, sym, ap, ◌∙◌, arith, inl, inr, subst}
 use Rattle.std.proofs.lemmas.Bool.Decides.{nat_tests}
 use Rattle.std.proofs.lemmas.Bool.{cases_Bool, cond-true, cond-false}
-use Rattle.std.specs.Prelude.{◌==◌, ◌/◌, ◌||◌, nat_lt, slice_get, if◌then◌else◌}
-use Rattle.sim_base.specs.declared.actions.Action.{Action}
+use Rattle.std.specs.Prelude.{◌==◌, ◌/◌, ◌||◌, nat_lt, if◌then◌else◌}
 use Rattle.sim_base.specs.declared.actions.Action.TheVariants.{Return as ReturnAction, Begin}
 use Rattle.sim_base.specs.declared.lines.LineData.{LineData}
 use Rattle.sim_base.specs.declared.settings.Config.{Config}
-use Rattle.sim_base.specs.Numbering.{node_count, control_node, local_node, host_of, server_host}
+use Rattle.sim_base.specs.Numbering.{node_count, control_node, local_node, host_of}
 use Rattle.rv_hart.specs.declared.reservations.Span.{Span}
 use Rattle.elf_image.specs.Layout.{Setup}
 use Rattle.wire_msg.specs.declared.messages.Msg.{Msg}
-use Rattle.wire_msg.specs.declared.messages.Msg.TheVariants.{Call, Return, Start, Exit, Trapped, Reached, Limit, Probe, ProbeReply, GetS, GetM, PutM, InvAck, FetchAck, DataS, DataM, Inv, Fetch, FetchInv}
+use Rattle.wire_msg.specs.declared.messages.Msg.TheVariants.{Call, Return, Start, Exit, Trapped, Reached, Limit, Probe, ProbeReply}
 use Rattle.wire_msg.specs.Message.{may_send, line_of}
 use Rattle.clock_policy.specs.Probe.{may_go}
-use Rattle.flat_machine.specs.declared.threads.Thread.{Thread}
 use Rattle.flat_machine.specs.State.{State as Flat, started}
 use Rattle.flat_machine.specs.Action.{past_call}
 use Rattle.tile_core.specs.declared.cores.Status.{Status}
 use Rattle.tile_core.specs.declared.cores.Status.TheVariants.{Idle, Called, AtBarrier, Probing}
 use Rattle.tile_node.specs.Tile.{Tile as TileData, Act, quiet}
 use Rattle.tile_node.specs.Deliver.{return_taken, start_taken, limit_taken, probe_taken, reply_taken, taken, tile_delivered}
-use Rattle.tile_node.specs.OneLine.{Happening, nothing, taken_at, delivered_at}
-use Rattle.control_server.specs.Control.{Control}
+use Rattle.tile_node.specs.OneLine.{nothing, delivered_at}
 use Rattle.event_journal.specs.declared.events.Event.TheVariants.{Deliver}
-use Rattle.event_journal.specs.State.{State, messages_to, changed, with_queue}
+use Rattle.event_journal.specs.State.{State, changed, with_queue}
 use Rattle.node_machine.specs.declared.nodes.Node.{Node}
 use Rattle.node_machine.specs.declared.nodes.Node.TheVariants.{Tile}
 use Rattle.node_machine.specs.Machine.{change_of, of_tile}
@@ -32,15 +29,14 @@ use Rattle.tile_cache.specs.Copy.{copy_of}
 use Rattle.coherence_laws.specs.Coherence.{IsWritable}
 use Rattle.coherence_laws.specs.Laws.{value_after, value_by, heard_at}
 use Rattle.coherence_laws.proofs.Events.{values_after}
-use Rattle.coherence_laws.proofs.Holds.{IsNodeOf}
-use Rattle.agreement_laws.specs.Seen.{is_of_threads, of_threads}
+use Rattle.agreement_laws.specs.Seen.{is_of_threads}
 use Rattle.agreement_laws.specs.Phases.{tile_of}
 use Rattle.agreement_laws.specs.Kept.{Kept}
-use Rattle.agreement_laws.specs.Whole.{StandsToo, IsHeld, ReservationsHeld}
+use Rattle.agreement_laws.specs.Whole.{ReservationsHeld}
 use Rattle.agreement_laws.proofs.Moves.{equal, same_is}
 use Rattle.agreement_laws.proofs.LocalStep.{node_other}
 use Rattle.agreement_laws.proofs.Quiet.{kept_seen, taken_same}
-use Rattle.agreement_laws.proofs.Stand.{who_sits, Made, Changed, changed_made, silent_made}
+use Rattle.agreement_laws.proofs.Stand.{who_sits, Made, changed_made, silent_made}
 use Rattle.agreement_laws.proofs.Returning.{who_is_told, returned_kept}
 use Rattle.agreement_laws.proofs.Beginning.{who_is_given, begun_kept}
 use Rattle.agreement_laws.proofs.Delivering.{taken_unseen, is_answer, is_start, control_head, local_head, quiet_kept, probed_kept, limit_kept, reply_kept}

@@ -1,12 +1,10 @@
 -- A delivery to a tile of a message about no line follows the flat machine.
-use Rattle.std.proofs.Common.{◌≡◌, ℕ, ◌<◌, ◌&&◌, Bool, true, false, List, [], ◌∷◌, ◌++◌, Some, None, refl, sym, ap, ◌∙◌, arith, subst}
+use Rattle.std.proofs.Common.{◌≡◌, ℕ, ◌<◌, ◌&&◌, Bool, true, false, refl, sym, ap, ◌∙◌, arith, subst}
 use Rattle.std.proofs.lemmas.Bool.Decides.{nat_tests}
 use Rattle.std.specs.Prelude.{nat_lt}
 use Rattle.sim_base.specs.Numbering.{node_count, control_node}
-use Rattle.elf_image.specs.Layout.{Setup}
 use Rattle.wire_msg.specs.declared.messages.Msg.{Msg}
-use Rattle.flat_machine.specs.State.{State as Flat}
-use Rattle.tile_node.specs.Tile.{Tile as TileData, Act}
+use Rattle.tile_node.specs.Tile.{Act}
 use Rattle.tile_node.specs.Deliver.{tile_delivered}
 use Rattle.event_journal.specs.declared.events.Event.TheVariants.{Deliver}
 use Rattle.event_journal.specs.State.{State, changed, with_queue}

@@ -2,12 +2,11 @@
 use Rattle.std.proofs.Common.{◌≡◌, ◌≢◌, ℕ, ◌+◌, ◌<◌, Bool, true, false, List, [], ◌∷◌, Option, Some, None, refl, sym, ap, ◌∙◌, arith, inl, inr, subst}
 use Rattle.std.proofs.lemmas.Bool.Decides.{nat_tests}
 use Rattle.std.proofs.lemmas.Bool.{cases_Bool, cond-true, cond-false}
-use Rattle.std.specs.Prelude.{◌==◌, if◌then◌else◌}
-use Rattle.std.specs.Option.{option_map}
+use Rattle.std.specs.Prelude.{◌==◌}
 use Rattle.sim_base.specs.Numbering.{control_node, local_node, host_of}
 use Rattle.elf_image.specs.Layout.{Setup}
 use Rattle.wire_msg.specs.declared.messages.Msg.{Msg}
-use Rattle.wire_msg.specs.declared.messages.Msg.TheVariants.{Call, Return, Start, Exit, Trapped, Reached, Limit, Probe, ProbeReply}
+use Rattle.wire_msg.specs.declared.messages.Msg.TheVariants.{Return, Start, Limit, Probe, ProbeReply}
 use Rattle.clock_policy.specs.Probe.{may_go}
 use Rattle.flat_machine.specs.State.{State as Flat}
 use Rattle.tile_core.specs.declared.cores.Status.{Status}
@@ -21,18 +20,17 @@ use Rattle.node_machine.specs.declared.nodes.Node.{Node}
 use Rattle.node_machine.specs.declared.nodes.Node.TheVariants.{Tile}
 use Rattle.node_machine.specs.Machine.{change_of, of_tile}
 use Rattle.agreement_laws.specs.Seen.{is_of_threads, of_threads, naming}
-use Rattle.agreement_laws.specs.Phases.{Hart, Work, executes, gathers, on_way, noted, limited, unheard, Going, runs, misses, writes, misses_byte, stops, probes, Phase, given, on, told, tile_of}
-use Rattle.agreement_laws.specs.Sides.{side_of}
-use Rattle.agreement_laws.specs.Spots.{Stance, writing, stopped, probing, Sitting, work_in, stance_in, sitting_in, core_in, Spot, spot, spot_at, spot_of, limits_way}
+use Rattle.agreement_laws.specs.Phases.{Hart, Work, executes, gathers, on_way, noted, limited, unheard, Going, runs, misses, writes, misses_byte, stops, probes, Phase, given, on, told}
+use Rattle.agreement_laws.specs.Spots.{stopped, probing, work_in, stance_in, sitting_in, core_in, Spot, spot, spot_at, spot_of, limits_way}
 use Rattle.agreement_laws.specs.Kept.{Kept}
 use Rattle.agreement_laws.proofs.Moves.{equal, same_is}
 use Rattle.agreement_laws.proofs.Reading.{seats}
 use Rattle.agreement_laws.proofs.Views.{first_kept, taken_there, taken_elsewhere, taken_here}
-use Rattle.agreement_laws.proofs.LocalStep.{turned, above, past, same_spot, changed_elsewhere}
+use Rattle.agreement_laws.proofs.LocalStep.{above, past, same_spot, changed_elsewhere}
 use Rattle.agreement_laws.proofs.Quiet.{ShowsSame, kept_seen, acted_same}
 use Rattle.agreement_laws.proofs.Returning.{taken_from_control, elsewhere_then}
 use Rattle.agreement_laws.proofs.Sending.{spot_acts}
-use Rattle.agreement_laws.proofs.GoingOn.{goes_here, is_probes, spot_on, turns, begins}
+use Rattle.agreement_laws.proofs.GoingOn.{goes_here, is_probes, spot_on, turns}
 use Rattle.agreement_laws.proofs.Silent.{probe_silent}
 
 -- a list that is about no thread

@@ -1,6 +1,5 @@
 -- The epoch is advanced: each thread whose report was noted has the next limit on its way.
-use Rattle.std.proofs.Common.{◌≡◌, ◌≢◌, ℕ, zero, suc, ◌+◌, ◌<◌, Bool, true, false, List, [], ◌∷◌, ◌++◌, map, slice_get, Option, Some, None, refl, sym, ap, ◌∙◌, arith, ◌⊎◌, inl, inr, subst, append-nil}
-use Rattle.std.proofs.lemmas.Bool.Decides.{nat_tests}
+use Rattle.std.proofs.Common.{◌≡◌, ◌≢◌, ℕ, zero, suc, ◌<◌, Bool, true, false, List, [], ◌∷◌, ◌++◌, map, slice_get, Option, Some, None, refl, sym, ap, ◌∙◌, ◌⊎◌, inl, inr, subst, append-nil}
 use Rattle.std.proofs.lemmas.Bool.{cases_Bool, cond-true, cond-false}
 use Rattle.std.specs.Prelude.{◌==◌, if◌then◌else◌, filter, slice_index}
 use Rattle.std.specs.List.{filter_map, cons_option}
@@ -11,18 +10,18 @@ use Rattle.elf_image.specs.Layout.{Setup}
 use Rattle.wire_msg.specs.declared.messages.Msg.{Msg}
 use Rattle.wire_msg.specs.declared.messages.Msg.TheVariants.{Limit}
 use Rattle.clock_policy.specs.declared.members.Member.{Member}
-use Rattle.clock_policy.specs.Members.{Standing, nobody, some_unreached, all_reached, standing, renewed}
-use Rattle.clock_policy.specs.Epoch.{Epoch, limit_of, next_epoch, limit_sent, limits_sent, advanced_by, announced_by}
+use Rattle.clock_policy.specs.Members.{Standing, nobody, some_unreached, all_reached, standing}
+use Rattle.clock_policy.specs.Epoch.{limit_of, next_epoch, limit_sent, limits_sent, advanced_by, announced_by}
 use Rattle.flat_machine.specs.State.{State as Flat}
 use Rattle.control_server.specs.Control.{Control}
 use Rattle.control_server.specs.Serve.{epochs_closed, limits_closed}
 use Rattle.event_journal.specs.Rules.{Change}
 use Rattle.event_journal.specs.State.{State, messages_to}
 use Rattle.node_machine.specs.declared.nodes.Node.{Node}
-use Rattle.agreement_laws.specs.Seen.{is_of_threads, names, of_threads, naming, starts_of, exits_of}
-use Rattle.agreement_laws.specs.Phases.{Hart, Work, Report, on_way, noted, limited, unheard, Going, runs, misses, writes, misses_byte, stops, probes, Phase, unborn, sent, given, on, calling, asking, checking, waits, lost, told, traps, trapping, trapped, leaving, passing, exiting, vanished, over, tile_of}
+use Rattle.agreement_laws.specs.Seen.{names, of_threads, naming, starts_of}
+use Rattle.agreement_laws.specs.Phases.{on_way, noted, limited, unheard, runs, misses, writes, misses_byte, stops, probes, Phase, unborn, sent, given, on, calling, asking, checking, waits, lost, told, traps, trapping, trapped, leaving, passing, exiting, vanished, over, tile_of}
 use Rattle.agreement_laws.specs.Sides.{Side, side, side_of, reports_of}
-use Rattle.agreement_laws.specs.Spots.{Spot, spot, spot_at, spot_of, vacant}
+use Rattle.agreement_laws.specs.Spots.{Spot, spot, spot_at, spot_of}
 use Rattle.agreement_laws.specs.Kept.{KnowsTile, Fit, Kept}
 use Rattle.agreement_laws.proofs.Moves.{equal, same_is}
 use Rattle.agreement_laws.proofs.Views.{seen_after}

@@ -1,10 +1,9 @@
 -- A store-conditional that fails at its tile, where it may also be one that could be done on the flat machine; and a write that
 -- begins.
-use Rattle.std.proofs.Common.{◌≡◌, ◌≢◌, ℕ, ◌<◌, Bool, true, false, List, [], ◌∷◌, slice_get, Option, Some, None, refl, sym, ap, ◌∙◌, subst}
+use Rattle.std.proofs.Common.{◌≡◌, ℕ, ◌<◌, [], slice_get, Some, refl, sym, ap, ◌∙◌, subst}
 use Rattle.std.specs.Prelude.{option_and_then}
 use Rattle.std.specs.Option.{option_map}
 use Rattle.sim_base.specs.declared.actions.Action.TheVariants.{Exec, FailSc}
-use Rattle.sim_base.specs.Numbering.{control_node, local_node, host_of}
 use Rattle.rv_exec.specs.Registers.{with_register}
 use Rattle.rv_hart.specs.Start.{next_pc}
 use Rattle.rv_hart.specs.Step.{next_step}
@@ -13,9 +12,8 @@ use Rattle.wire_msg.specs.declared.messages.Msg.{Msg}
 use Rattle.flat_machine.specs.declared.threads.Thread.{Thread}
 use Rattle.flat_machine.specs.declared.threads.Status.TheVariants.{Ready, Writing as FlatWriting}
 use Rattle.flat_machine.specs.State.{State as Flat, with_thread}
-use Rattle.flat_machine.specs.Serving.{fate_by}
-use Rattle.flat_machine.specs.Action.{step_of, conditional_rd, failed_conditional, failed_by, failed, act}
-use Rattle.tile_core.specs.declared.cores.Status.TheVariants.{Idle, Run, Writing}
+use Rattle.flat_machine.specs.Action.{step_of, conditional_rd, failed_conditional, failed_by, failed}
+use Rattle.tile_core.specs.declared.cores.Status.TheVariants.{Idle, Run}
 use Rattle.tile_core.specs.declared.plans.Plan.TheVariants.{ScFails, Write}
 use Rattle.tile_core.specs.Gathering.{write_of}
 use Rattle.tile_core.specs.Plan.{plan_by, plan_of}

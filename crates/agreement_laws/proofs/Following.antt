@@ -1,8 +1,8 @@
 -- From what an event gives to what is kept of the run with that event; and the start.
-use Rattle.std.proofs.Common.{◌≡◌, ◌≢◌, ℕ, ◌+◌, ◌≤◌, ◌<◌, Bool, true, false, List, [], ◌∷◌, ◌++◌, ◌&&◌, Option, Some, None, refl, sym, ap, ◌∙◌, arith, inl, inr, subst}
+use Rattle.std.proofs.Common.{◌≡◌, ℕ, ◌+◌, ◌≤◌, ◌<◌, Bool, true, false, List, [], ◌∷◌, ◌++◌, ◌&&◌, Option, Some, None, refl, sym, ap, ◌∙◌, arith, inl, inr, subst}
 use Rattle.std.proofs.lemmas.Bool.Decides.{nat_tests}
 use Rattle.std.proofs.lemmas.Bool.{cases_Bool, cond-true, cond-false}
-use Rattle.std.specs.Prelude.{◌%◌, ◌==◌, nat_lt, slice_get, if◌then◌else◌}
+use Rattle.std.specs.Prelude.{◌%◌, ◌==◌, nat_lt, if◌then◌else◌}
 use Rattle.std.specs.FinMap.{contains_key}
 use Rattle.sim_base.specs.declared.actions.Action.{Action}
 use Rattle.sim_base.specs.declared.lines.LineData.{LineData}
@@ -13,11 +13,8 @@ use Rattle.rv_exec.specs.Access.{Asked}
 use Rattle.rv_hart.specs.declared.reservations.Span.{Span}
 use Rattle.elf_image.specs.Layout.{Setup, initial_line}
 use Rattle.wire_msg.specs.declared.messages.Msg.{Msg}
-use Rattle.flat_machine.specs.declared.threads.Thread.{Thread}
-use Rattle.flat_machine.specs.Memory.{start_memory}
-use Rattle.flat_machine.specs.State.{State as Flat, start}
+use Rattle.flat_machine.specs.State.{State as Flat}
 use Rattle.flat_machine.proofs.MappedLemmas.{mapped_stays}
-use Rattle.tile_core.specs.declared.cores.TileCore.{TileCore}
 use Rattle.tile_core.specs.declared.plans.Plan.TheVariants.{Access}
 use Rattle.tile_core.specs.Core.{idle_core, begun}
 use Rattle.tile_core.specs.Plan.{plan_of}
@@ -32,15 +29,14 @@ use Rattle.event_journal.specs.Rules.{Rules}
 use Rattle.event_journal.specs.Run.{IsRun, can_happen, happens, after}
 use Rattle.event_journal.proofs.Runs.{after-append}
 use Rattle.node_machine.specs.declared.nodes.Node.{Node}
-use Rattle.node_machine.specs.declared.nodes.Node.TheVariants.{Tile, Control as ControlNode, Local}
+use Rattle.node_machine.specs.declared.nodes.Node.TheVariants.{Tile, Control as ControlNode}
 use Rattle.node_machine.specs.Machine.{rules, start_state, start_node, start_server, can_step, node_step, change_of, of_tile}
 use Rattle.node_machine.specs.Commits.{event_action}
-use Rattle.coherence_laws.specs.Laws.{reached, line_value, value_then}
+use Rattle.coherence_laws.specs.Laws.{reached, line_value}
 use Rattle.coherence_laws.proofs.Events.{Sound, values_after, event_sound, run_sound, start_sound, values_change}
 use Rattle.coherence_laws.proofs.Holds.{IsNodeOf}
 use Rattle.agreement_laws.specs.Laws.{IsRunOf}
-use Rattle.agreement_laws.specs.Kept.{Kept}
-use Rattle.agreement_laws.specs.Whole.{AgreesOn, IsHeld, ReservationsHeld, ReservationsStand, Whole, acted}
+use Rattle.agreement_laws.specs.Whole.{IsHeld, ReservationsHeld, Whole, acted}
 use Rattle.agreement_laws.specs.Parts.{IsWhole, StartIsWhole, WholeAgrees, Follows, TileStepsFollow}
 use Rattle.agreement_laws.proofs.Moves.{equal, same_is}
 use Rattle.agreement_laws.proofs.LocalStep.{above, node_other}

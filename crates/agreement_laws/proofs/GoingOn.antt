@@ -1,6 +1,6 @@
 -- What a tile that goes on is to its thread's phase, and a thread that turns to something else on its tile.
-use Rattle.std.proofs.Common.{◌≡◌, ◌≢◌, ℕ, ◌<◌, Bool, true, false, List, [], ◌∷◌, slice_get, Option, Some, None, refl, sym, ap, ◌∙◌, inl, inr, subst}
-use Rattle.std.specs.Prelude.{slice_index, option_and_then}
+use Rattle.std.proofs.Common.{◌≡◌, ℕ, ◌<◌, Bool, true, false, List, slice_get, Option, Some, None, refl, sym, ap, ◌∙◌}
+use Rattle.std.specs.Prelude.{slice_index}
 use Rattle.std.specs.Option.{option_map}
 use Rattle.rv_exec.specs.Access.{Asked}
 use Rattle.elf_image.specs.Layout.{Setup}
@@ -17,12 +17,12 @@ use Rattle.control_server.specs.Control.{Control}
 use Rattle.event_journal.specs.State.{State}
 use Rattle.node_machine.specs.declared.nodes.Node.{Node}
 use Rattle.node_machine.specs.declared.nodes.Node.TheVariants.{Tile}
-use Rattle.agreement_laws.specs.Phases.{Hart, Work, executes, gathers, Report, Going, runs, misses, writes, misses_byte, stops, probes, Phase, on, tile_of, status_working, status_going}
+use Rattle.agreement_laws.specs.Phases.{Hart, Work, executes, gathers, Report, Going, runs, misses, writes, misses_byte, stops, probes, Phase, on, tile_of, status_going}
 use Rattle.agreement_laws.specs.Sides.{Side, side_of, place_of}
 use Rattle.agreement_laws.specs.Spots.{Stance, running, missing, writing, missing_byte, stopped, probing, called, trapped_there, Sitting, work_in, stance_in, sitting_in, core_in, Spot, spot, spot_at, spot_of, stance_going}
 use Rattle.agreement_laws.specs.Kept.{KnowsTile, Fit, Kept}
 use Rattle.agreement_laws.proofs.Reading.{IsThread, thread_by}
-use Rattle.agreement_laws.proofs.AtTile.{Elsewhere, OthersStay, stays_moves}
+use Rattle.agreement_laws.proofs.AtTile.{Elsewhere, stays_moves}
 use Rattle.agreement_laws.proofs.LocalStep.{is_runs}
 use Rattle.agreement_laws.proofs.Sending.{place_is}
 

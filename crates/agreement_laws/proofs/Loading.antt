@@ -1,8 +1,8 @@
 -- A byte of a write is read: by a step that has its line, or when the line comes.
-use Rattle.std.proofs.Common.{◌≡◌, ◌≢◌, ℕ, ◌+◌, ◌<◌, ◌≤◌, Bool, true, false, List, [], ◌∷◌, ◌++◌, length, slice_get, Option, Some, None, refl, sym, ap, ◌∙◌, arith, subst}
+use Rattle.std.proofs.Common.{◌≡◌, ℕ, ◌+◌, ◌<◌, true, false, List, [], ◌∷◌, ◌++◌, length, Some, None, refl, sym, ap, ◌∙◌, arith}
 use Rattle.std.proofs.lemmas.Bool.Decides.{nat_tests}
 use Rattle.std.proofs.lemmas.Bool.{cond-true}
-use Rattle.std.specs.Prelude.{◌/◌, ◌%◌, ◌^◌, nat_lt, slice_index, if◌then◌else◌, option_and_then}
+use Rattle.std.specs.Prelude.{◌%◌, ◌^◌, nat_lt, slice_index, option_and_then}
 use Rattle.std.specs.Option.{option_map}
 use Rattle.sim_base.specs.declared.actions.Action.TheVariants.{Load}
 use Rattle.sim_base.specs.declared.lines.LineData.{LineData}
@@ -11,10 +11,10 @@ use Rattle.wire_msg.specs.declared.messages.Msg.{Msg}
 use Rattle.flat_machine.specs.declared.threads.Thread.{Thread}
 use Rattle.flat_machine.specs.declared.threads.Status.{Status as FlatStatus}
 use Rattle.flat_machine.specs.declared.threads.Status.TheVariants.{Writing as FlatWriting}
-use Rattle.flat_machine.specs.Memory.{byte_around}
+use Rattle.flat_machine.specs.Memory.{byte_at}
 use Rattle.flat_machine.specs.State.{State as Flat, with_thread}
 use Rattle.flat_machine.specs.Serving.{fate_by}
-use Rattle.flat_machine.specs.Action.{loaded_by, loaded, act}
+use Rattle.flat_machine.specs.Action.{loaded_by, loaded}
 use Rattle.tile_core.specs.Gathering.{Gathering, is_gathered, with_byte}
 use Rattle.tile_core.specs.Core.{line_at, next_byte}
 use Rattle.tile_node.specs.Tile.{place_in_line}
@@ -39,7 +39,7 @@ byte_read value write = slice_index (value (line_at (next_byte write))).bytes (p
 
 -- on the flat machine
 abbrev pub with_next : Memory → Gathering → Thread → Thread
-with_next memory write th = record th { status = FlatWriting write.addr write.len (write.got ++ byte_around memory (write.addr + length write.got) ∷ []) }
+with_next memory write th = record th { status = FlatWriting write.addr write.len (write.got ++ byte_at memory ((write.addr + length write.got) % 2 ^ 64) ∷ []) }
 
 not_all : (write : Gathering) → is_gathered write ≡ false → nat_lt (length write.got) write.len ≡ true
 not_all write e = grind (arith, nat_tests)
@@ -55,7 +55,7 @@ load_kept {w} {s} {c} {f} k s' x u regs pc going write value low phase status re
     let th' : Thread = with_next f.memory write th in
     let is_writing : th.status ≡ FlatWriting write.addr write.len write.got = there.status ∙ status in
     let g : Flat = with_thread f u th' in
-    let byte : byte_around f.memory (write.addr + length write.got) ≡ byte_read value write = agrees ((write.addr + length write.got) % 2 ^ 64) in
+    let byte : byte_at f.memory ((write.addr + length write.got) % 2 ^ 64) ≡ byte_read value write = agrees ((write.addr + length write.got) % 2 ^ 64) in
     let new : FlatStatus = FlatWriting write.addr write.len (write.got ++ byte_read value write ∷ []) in
     let status' : th'.status ≡ new = ap (λ b. FlatWriting write.addr write.len (write.got ++ b ∷ [])) byte in
     record {

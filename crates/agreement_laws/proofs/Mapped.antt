@@ -1,16 +1,16 @@
 -- Bytes that a right is granted to are mapped; and the memory at the start has the bytes that the lines have then.
-use Rattle.std.proofs.Common.{◌≡◌, ◌≢◌, ℕ, zero, suc, ◌+◌, ◌*◌, ◌<◌, Bool, true, false, cond, ◌&&◌, List, [], ◌∷◌, Some, None, refl, sym, ap, ◌∙◌, arith, inl, inr}
+use Rattle.std.proofs.Common.{◌≡◌, ◌≢◌, ℕ, zero, suc, ◌+◌, ◌*◌, ◌<◌, Bool, true, false, ◌&&◌, List, [], ◌∷◌, refl, sym, ap, ◌∙◌, arith, inl, inr}
 use Rattle.std.proofs.lemmas.Bool.Decides.{nat_tests}
 use Rattle.std.proofs.lemmas.Bool.{cases_Bool}
 use Rattle.std.specs.Prelude.{◌/◌, ◌%◌, ◌||◌, nat_lt, nat_le, nat_eq, map, slice_index, is_some, unwrap_or}
 use Rattle.std.specs.List.{list_any, list_all, range_with_len}
-use Rattle.std.specs.FinMap.{get, contains_key}
+use Rattle.std.specs.FinMap.{contains_key}
 use Rattle.rv_exec.specs.Access.{Asked}
 use Rattle.elf_image.specs.declared.address_map.Right.{Right}
 use Rattle.elf_image.specs.declared.address_map.Right.TheVariants.{Read, Write, ReadWrite}
 use Rattle.elf_image.specs.declared.program.Segment.{Segment}
 use Rattle.elf_image.specs.Image.{holds, some_reads, some_writes, grants_read, grants_write}
-use Rattle.elf_image.specs.Layout.{Setup, mapped, start_byte, initial_bytes, initial_line, heap_start, stack_start, is_heap, is_on_stack, is_stack, is_free, has_right, may}
+use Rattle.elf_image.specs.Layout.{Setup, mapped, start_byte, initial_bytes, initial_line, heap_start, stack_start, is_heap, is_on_stack, is_stack, is_free, has_right}
 use Rattle.rv_hart.specs.Step.{is_granted, right_of}
 use Rattle.flat_machine.specs.Inner.{has_address}
 use Rattle.flat_machine.specs.Memory.{start_memory, byte_at}

@@ -1,8 +1,7 @@
 -- For every request that the control server serves: all is kept, and the active threads are the epoch's.
-use Rattle.std.proofs.Common.{◌≡◌, ◌≢◌, ℕ, ◌+◌, ◌<◌, ◌%◌, Bool, true, false, not, cond, ◌&&◌, List, [], ◌∷◌, ◌++◌, length, map, slice_get, slice_set, Option, Some, None, refl, sym, ap, ◌∙◌, arith, inl, inr, subst, is_some}
-use Rattle.std.proofs.lemmas.Bool.Decides.{nat_tests}
+use Rattle.std.proofs.Common.{◌≡◌, ℕ, ◌+◌, ◌<◌, ◌%◌, Bool, true, false, not, cond, ◌&&◌, List, [], ◌∷◌, ◌++◌, length, slice_get, slice_set, Option, Some, None, refl, sym, ap, ◌∙◌, subst, is_some}
 use Rattle.std.specs.Prelude.{◌==◌, slice_index}
-use Rattle.std.specs.Option.{option_map, option_map_or}
+use Rattle.std.specs.Option.{option_map_or}
 use Rattle.sim_base.specs.declared.ends.End.{End}
 use Rattle.sim_base.specs.declared.ends.End.TheVariants.{Exit as ExitEnd, Trap as TrapEnd}
 use Rattle.elf_image.specs.Layout.{Setup}
@@ -10,7 +9,6 @@ use Rattle.wire_msg.specs.ErrorNumber.{minus}
 use Rattle.wire_msg.specs.declared.messages.Msg.{Msg}
 use Rattle.wire_msg.specs.declared.calls.Call.{Call as CallOf}
 use Rattle.wire_msg.specs.declared.calls.Call.TheVariants.{Spawn, Join as JoinCall, Write, FutexWait, FutexWake, Brk, ExitGroup}
-use Rattle.serving.specs.declared.control_data.Fate.{Fate}
 use Rattle.serving.specs.declared.control_data.Fate.TheVariants.{Live, Exited}
 use Rattle.serving.specs.declared.control_data.Join.{Join}
 use Rattle.serving.specs.declared.control_data.Join.TheVariants.{Code, Parked as ParkedJoin, NoThread, Invalid}
@@ -20,19 +18,16 @@ use Rattle.serving.specs.ControlData.{ControlData, is_live, is_parked}
 use Rattle.serving.specs.Join.{join_of, joiner_of}
 use Rattle.serving.specs.Serving.{Served, answered, parked, born, ended, joined, wake_served, is_full, output_with, write_answer, break_after, closed_end, end_of_exit, with_end, serve}
 use Rattle.clock_policy.specs.Epoch.{Epoch}
-use Rattle.flat_machine.specs.declared.threads.Thread.{Thread}
-use Rattle.flat_machine.specs.declared.threads.Status.{Status as FlatStatus}
-use Rattle.flat_machine.specs.declared.threads.Status.TheVariants.{Trapped as FlatTrapped, Left}
+use Rattle.flat_machine.specs.declared.threads.Status.TheVariants.{Trapped as FlatTrapped}
 use Rattle.flat_machine.specs.State.{State as Flat}
-use Rattle.flat_machine.specs.Serving.{fate_of}
 use Rattle.control_server.specs.Control.{Control, Waiting, Check, is_active, is_live_thread}
 use Rattle.control_server.specs.Deliver.{request_of as request_of_check}
 use Rattle.control_server.specs.Serve.{epochs_served, leave_unless, freest_host, join_all, joined_by, left_by}
 use Rattle.event_journal.specs.State.{State}
 use Rattle.node_machine.specs.declared.nodes.Node.{Node}
-use Rattle.agreement_laws.specs.Phases.{Hart, Key, word, ending, trapping}
-use Rattle.agreement_laws.specs.Sides.{Side, side, side_of, keys_of, targets_of}
-use Rattle.agreement_laws.specs.Kept.{KnowsTile, Kept}
+use Rattle.agreement_laws.specs.Phases.{Key, word, ending}
+use Rattle.agreement_laws.specs.Sides.{Side, side_of, keys_of, targets_of}
+use Rattle.agreement_laws.specs.Kept.{Kept}
 use Rattle.agreement_laws.proofs.Moves.{same_is}
 use Rattle.agreement_laws.proofs.AfterServing.{IsLiveIn}
 use Rattle.agreement_laws.proofs.Joins.{is_empty, parked_is, words_of, words_here, targets_here}

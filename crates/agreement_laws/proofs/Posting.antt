@@ -1,6 +1,6 @@
 -- What the control server sends, as far as threads are concerned; and one move lemma for a thread to which it does something
 -- without moving it from its place.
-use Rattle.std.proofs.Common.{◌≡◌, ◌≢◌, ℕ, ◌+◌, ◌<◌, Bool, true, false, cond, List, [], ◌∷◌, ◌++◌, map, slice_get, Option, Some, None, refl, sym, ap, ◌∙◌, arith, ◌⊎◌, inl, inr, subst, append-nil, append_assoc}
+use Rattle.std.proofs.Common.{◌≡◌, ◌≢◌, ℕ, ◌+◌, ◌<◌, Bool, true, false, cond, List, [], ◌∷◌, ◌++◌, slice_get, Option, Some, None, refl, sym, ap, ◌∙◌, arith, inl, inr, append-nil, append_assoc}
 use Rattle.std.proofs.lemmas.Bool.Decides.{nat_tests}
 use Rattle.std.proofs.lemmas.Bool.{cases_Bool, cond-true, cond-false}
 use Rattle.std.specs.Prelude.{◌==◌, if◌then◌else◌, filter, slice_index, option_and_then}
@@ -20,10 +20,10 @@ use Rattle.agreement_laws.specs.Seen.{is_of_threads, names, of_threads, naming, 
 use Rattle.agreement_laws.specs.Phases.{Hart, Phase, unborn, sent, told, tile_of}
 use Rattle.agreement_laws.specs.Sides.{there, Side, side, side_of, place_of, keys_of, checked_of, reports_of}
 use Rattle.agreement_laws.specs.Spots.{sitting_in, core_in, Spot, spot, spot_of, spot_at, seat, called}
-use Rattle.agreement_laws.specs.Kept.{idle_in, idle_at, has, KnowsTile, Fit, Kept}
-use Rattle.agreement_laws.proofs.Moves.{Move, moves, is, equal, same_is}
+use Rattle.agreement_laws.specs.Kept.{idle_in, KnowsTile, Fit, Kept}
+use Rattle.agreement_laws.proofs.Moves.{moves, is, equal, same_is}
 use Rattle.agreement_laws.proofs.Views.{seen_after}
-use Rattle.agreement_laws.proofs.LocalStep.{queue_other, node_other, same_spot}
+use Rattle.agreement_laws.proofs.LocalStep.{node_other, same_spot}
 use Rattle.agreement_laws.proofs.Quiet.{ShowsSame, kept_seen}
 
 -- the state in which the control server has sent this, and is not yet another

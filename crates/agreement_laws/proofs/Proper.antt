@@ -1,7 +1,6 @@
 -- An access that a step asks for lies in one line, and its bytes have the right that it needs.
-use Rattle.std.proofs.Common.{◌≡◌, ℕ, ◌+◌, ◌≤◌, Bool, true, false, cond, not, ◌&&◌, List, Option, Some, None, refl, sym, ap, ◌∙◌, arith, inl, inr, subst}
+use Rattle.std.proofs.Common.{◌≡◌, ℕ, ◌+◌, ◌≤◌, Bool, true, false, cond, not, ◌&&◌, List, Option, Some, None, refl, arith, subst}
 use Rattle.std.proofs.lemmas.Bool.Decides.{nat_tests}
-use Rattle.std.proofs.lemmas.Bool.{cases_Bool}
 use Rattle.std.specs.Prelude.{◌%◌, ◌==◌, if◌then◌else◌, IsTrue, IfSome}
 use Rattle.sim_base.specs.declared.ends.Cause.{Cause}
 use Rattle.sim_base.specs.declared.kinds.CostClass.{CostClass}
@@ -17,7 +16,7 @@ use Rattle.rv_exec.specs.Access.{Asked, size_of, is_size, load_of, store_of, ato
 use Rattle.rv_exec.specs.Arithmetic.{wrapping_sum}
 use Rattle.rv_exec.specs.Registers.{register}
 use Rattle.rv_exec.specs.Class.{class_of}
-use Rattle.rv_exec.specs.Effect.{effect_of, access_or_trap, misaligned_atomic, jump, advance, is_taken}
+use Rattle.rv_exec.specs.Effect.{effect_of, access_or_trap, misaligned_atomic, jump, is_taken}
 use Rattle.elf_image.specs.Layout.{Setup, fetch}
 use Rattle.elf_image.proofs.ValidRows.{row_valid}
 use Rattle.rv_hart.specs.declared.reservations.Span.{Span}
@@ -27,7 +26,7 @@ use Rattle.rv_hart.specs.Reservation.{is_conditional, matches}
 use Rattle.rv_hart.specs.Call.{a7}
 use Rattle.rv_hart.specs.Step.{is_granted, access_fault, meaning_step, row_step, word_step, next_step}
 use Rattle.tile_node.proofs.Facts.{in_line}
-use Rattle.agreement_laws.proofs.Pending.{IsNone, number_none}
+use Rattle.agreement_laws.proofs.Pending.{number_none}
 
 pub record IsProper (w : Setup) (access : Asked) : Type 0 where
   pub room : access.addr % 64 + access.size ≤ 64

@@ -1,12 +1,12 @@
 -- What the members of an epoch say of one thread, as members come, go, report and are renewed.
-use Rattle.std.proofs.Common.{◌≡◌, ◌≢◌, ℕ, Bool, true, false, not, List, [], ◌∷◌, map, Option, Some, None, refl, sym, ap, ◌∙◌, arith, inl, inr}
+use Rattle.std.proofs.Common.{◌≡◌, ℕ, false, List, [], ◌∷◌, map, Option, Some, None, refl, arith, inl, inr}
 use Rattle.std.proofs.lemmas.Bool.Decides.{nat_tests}
 use Rattle.std.proofs.lemmas.Bool.{cases_Bool}
-use Rattle.std.specs.Prelude.{◌==◌, nat_lt, filter}
+use Rattle.std.specs.Prelude.{◌==◌, nat_lt}
 use Rattle.clock_policy.specs.declared.members.Member.{Member}
-use Rattle.clock_policy.specs.Members.{unreached, with_member, without_member, with_report, reported, renewed}
+use Rattle.clock_policy.specs.Members.{with_member, without_member, reported, renewed}
 use Rattle.agreement_laws.specs.Sides.{reports_of}
-use Rattle.agreement_laws.proofs.Moves.{equal, same_is}
+use Rattle.agreement_laws.proofs.Moves.{same_is}
 
 pub reports_joined : (u : ℕ) (ms : List Member) → reports_of u ms ≡ [] → reports_of u (with_member u ms) ≡ None ∷ []
 reports_joined u [] none = let i = same_is u in cc

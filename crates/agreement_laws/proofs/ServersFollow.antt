@@ -1,13 +1,11 @@
 -- A step of the control server follows the flat machine: the request that it serves is legal there, and the whole is kept.
-use Rattle.std.proofs.Common.{◌≡◌, ◌≢◌, ℕ, zero, suc, ◌+◌, ◌≤◌, ◌<◌, Bool, true, false, ◌&&◌, List, [], ◌∷◌, ◌++◌, map, slice_get, slice_set, Option, Some, None, refl, sym, ap, ◌∙◌, arith, inl, inr, subst}
-use Rattle.std.proofs.lemmas.Bool.Decides.{nat_tests}
+use Rattle.std.proofs.Common.{◌≡◌, ℕ, zero, suc, ◌<◌, Bool, true, false, ◌&&◌, List, [], ◌∷◌, ◌++◌, slice_get, slice_set, Option, Some, None, refl, sym, ap, ◌∙◌, inl, inr, subst}
 use Rattle.std.proofs.lemmas.Bool.{cases_Bool, cond-true}
-use Rattle.std.specs.Prelude.{◌==◌, nat_lt, option_and_then}
+use Rattle.std.specs.Prelude.{◌==◌, nat_lt}
 use Rattle.std.specs.Option.{option_map, option_map_or}
 use Rattle.sim_base.specs.declared.actions.Action.{Action}
 use Rattle.sim_base.specs.declared.actions.Action.TheVariants.{Serve}
 use Rattle.sim_base.specs.declared.ends.End.{End}
-use Rattle.sim_base.specs.declared.lines.LineData.{LineData}
 use Rattle.sim_base.specs.Numbering.{node_count, control_node}
 use Rattle.sim_base.proofs.CheckedSettings.{in_range}
 use Rattle.elf_image.specs.Layout.{Setup}
@@ -18,37 +16,34 @@ use Rattle.serving.specs.declared.control_data.Fate.TheVariants.{Live, Exited}
 use Rattle.serving.specs.declared.control_data.Request.{Request}
 use Rattle.serving.specs.declared.control_data.Request.TheVariants.{Call}
 use Rattle.wire_msg.specs.declared.calls.Call.TheVariants.{FutexWait}
-use Rattle.serving.specs.Serving.{Woken, Born, Own, answer, park, leave, Served, serve}
+use Rattle.serving.specs.Serving.{Woken, Own, answer, park, leave, Served, serve}
 use Rattle.flat_machine.specs.declared.threads.Thread.{Thread}
 use Rattle.flat_machine.specs.declared.threads.Status.{Status as FlatStatus}
 use Rattle.flat_machine.specs.declared.threads.Status.TheVariants.{Answered, Parked}
 use Rattle.flat_machine.specs.State.{State as Flat, with_status}
-use Rattle.flat_machine.specs.Serving.{control_of, with_fate, with_fates, born_threads, woken_threads, with_own, after_serving, after_request, request_at, served, served_before, word_of}
+use Rattle.flat_machine.specs.Serving.{control_of, with_fate, with_fates, born_threads, woken_threads, with_own, after_serving, after_request, request_at, served_before, word_of}
 use Rattle.flat_machine.specs.Action.{act}
-use Rattle.tile_core.specs.declared.cores.Status.TheVariants.{Idle}
 use Rattle.tile_node.specs.Tile.{Tile as TileData}
-use Rattle.control_server.specs.Control.{Control, Act, Waiting, IsOrderly}
+use Rattle.control_server.specs.Control.{Control, Act, Waiting}
 use Rattle.control_server.specs.Serve.{can_step as control_can_step, begins, step_by, control_step}
 use Rattle.control_server.proofs.Orderly.{step_orderly}
-use Rattle.event_journal.specs.declared.events.Event.{Event}
 use Rattle.event_journal.specs.declared.events.Event.TheVariants.{Step}
 use Rattle.event_journal.specs.State.{State, changed}
 use Rattle.event_journal.specs.Run.{happens}
 use Rattle.node_machine.specs.declared.nodes.Node.{Node}
 use Rattle.node_machine.specs.declared.nodes.Node.TheVariants.{Tile, Control as ControlNode}
-use Rattle.node_machine.specs.Machine.{rules, start_state, can_step, node_step, change_of, of_control}
+use Rattle.node_machine.specs.Machine.{rules, start_state, can_step, node_step, change_of}
 use Rattle.node_machine.specs.Commits.{event_action}
 use Rattle.coherence_laws.specs.Laws.{reached, line_value, value_by, stepped_at}
 use Rattle.coherence_laws.proofs.Events.{values_after}
 use Rattle.coherence_laws.proofs.Holds.{IsNodeOf}
 use Rattle.agreement_laws.specs.Kept.{Kept}
-use Rattle.agreement_laws.specs.Whole.{AgreesOn, ReservationsHeld, ReservationsStand, Whole, acted}
-use Rattle.agreement_laws.specs.Parts.{IsWhole, Follows}
+use Rattle.agreement_laws.specs.Whole.{AgreesOn, ReservationsStand, acted}
 use Rattle.agreement_laws.specs.Servers.{ControlStepFollows}
-use Rattle.agreement_laws.proofs.Moves.{equal, same_is}
+use Rattle.agreement_laws.proofs.Moves.{same_is}
 use Rattle.agreement_laws.proofs.Threads.{get_left}
 use Rattle.agreement_laws.proofs.LocalStep.{node_other}
-use Rattle.agreement_laws.proofs.Stand.{Made, same_bytes, who_sits}
+use Rattle.agreement_laws.proofs.Stand.{same_bytes}
 use Rattle.agreement_laws.proofs.Whole.{All}
 use Rattle.agreement_laws.proofs.Following.{last_happens, run_all, follows_so}
 use Rattle.agreement_laws.proofs.Reading.{tile_shows}

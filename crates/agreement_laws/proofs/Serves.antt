@@ -1,42 +1,36 @@
 -- Requests whose caller is answered: by them alone, with threads woken, with a thread born, or with one joined.
-use Rattle.std.proofs.Common.{◌≡◌, ◌≢◌, ℕ, ◌+◌, ◌<◌, Bool, true, false, cond, List, [], ◌∷◌, ◌++◌, length, map, slice_get, slice_set, Option, Some, None, refl, sym, ap, ◌∙◌, arith, inl, inr, subst, append-nil}
-use Rattle.std.specs.Prelude.{◌==◌, slice_index, filter, option_and_then}
-use Rattle.std.specs.Option.{option_map, option_map_or}
-use Rattle.sim_base.specs.Numbering.{local_node}
+use Rattle.std.proofs.Common.{◌≡◌, ℕ, ◌<◌, Bool, true, false, cond, List, [], ◌∷◌, ◌++◌, length, map, slice_get, slice_set, Option, Some, None, refl, sym, ap, ◌∙◌, append-nil}
+use Rattle.std.specs.Prelude.{◌==◌, slice_index}
 use Rattle.elf_image.specs.Layout.{Setup}
 use Rattle.wire_msg.specs.declared.calls.Call.{Call as CallOf}
 use Rattle.wire_msg.specs.declared.calls.Call.TheVariants.{Spawn, Join as JoinCall, FutexWake}
 use Rattle.wire_msg.specs.declared.messages.Msg.{Msg}
-use Rattle.wire_msg.specs.declared.messages.Msg.TheVariants.{Start}
 use Rattle.serving.specs.declared.control_data.Fate.{Fate}
 use Rattle.serving.specs.declared.control_data.Fate.TheVariants.{Live, Exited}
-use Rattle.serving.specs.declared.control_data.Join.{Join}
-use Rattle.serving.specs.declared.control_data.Join.TheVariants.{Code, Parked as ParkedJoin, NoThread, Invalid}
+use Rattle.serving.specs.declared.control_data.Join.TheVariants.{Code, Parked as ParkedJoin, Invalid}
 use Rattle.serving.specs.declared.control_data.Request.TheVariants.{Call as CallRequest}
 use Rattle.serving.specs.declared.control_data.Waiter.{Waiter}
 use Rattle.serving.specs.ControlData.{ControlData}
 use Rattle.serving.specs.Join.{join_by, join_of}
-use Rattle.serving.specs.Wake.{woken, still_parked}
-use Rattle.serving.specs.Serving.{Served, Woken, answer, answered, born, joined, wake_served, woken_with}
+use Rattle.serving.specs.Wake.{woken}
+use Rattle.serving.specs.Serving.{Served, answer, answered, born, joined, wake_served}
 use Rattle.clock_policy.specs.Epoch.{Epoch, limit_of}
-use Rattle.flat_machine.specs.declared.threads.Thread.{Thread}
-use Rattle.flat_machine.specs.declared.threads.Status.{Status as FlatStatus}
 use Rattle.flat_machine.specs.declared.threads.Status.TheVariants.{Answered, Gone}
 use Rattle.flat_machine.specs.State.{State as Flat, new_thread, with_status}
 use Rattle.flat_machine.specs.Serving.{fate_of, control_of, with_fates, woken_threads, after_serving}
 use Rattle.flat_machine.proofs.ServingLemmas.{same_fates, more_fates, one_fate}
-use Rattle.control_server.specs.Control.{Control, Waiting, Check, waits as is_by}
+use Rattle.control_server.specs.Control.{Control, Waiting, Check}
 use Rattle.control_server.specs.Serve.{woken_mail, own_mail, born_mail, freest_host, callers_born, joined_by, join_all}
 use Rattle.event_journal.specs.State.{State}
 use Rattle.node_machine.specs.declared.nodes.Node.{Node}
 use Rattle.agreement_laws.specs.Phases.{Ask, plainly, by_write, status_asking}
-use Rattle.agreement_laws.specs.Sides.{Side, side, keys_of, reports_of}
+use Rattle.agreement_laws.specs.Sides.{Side, keys_of, reports_of}
 use Rattle.agreement_laws.specs.Kept.{Kept}
 use Rattle.agreement_laws.proofs.AfterServing.{Lives, IsLiveIn, fates_status}
 use Rattle.agreement_laws.proofs.Posting.{post, kept_joined}
-use Rattle.agreement_laws.proofs.Callers.{IsAsker, OwnPart, asks_first, asker_from, flat_status, caller_answered}
+use Rattle.agreement_laws.proofs.Callers.{IsAsker, asks_first, asker_from, flat_status, caller_answered}
 use Rattle.agreement_laws.proofs.Wakes.{live_in, all_woken}
-use Rattle.agreement_laws.proofs.Births.{born_control, born_flat, born_moves, joined_moves, fates_are, more_callers}
+use Rattle.agreement_laws.proofs.Births.{born_flat, born_moves, joined_moves, fates_are, more_callers}
 
 -- the server once a request is served, and before the epoch is closed
 abbrev pub served_control : Control → List Waiting → Option Check → List ℕ → Served → Epoch → Control

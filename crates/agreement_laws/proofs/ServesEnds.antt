@@ -1,9 +1,9 @@
 -- Requests whose caller is gone: an exit, the end of the program by a call, and a trap.
-use Rattle.std.proofs.Common.{◌≡◌, ◌≢◌, ℕ, zero, suc, ◌+◌, ◌<◌, Bool, true, false, List, [], ◌∷◌, ◌++◌, length, map, slice_get, slice_set, Option, Some, None, refl, sym, ap, ◌∙◌, arith, inl, inr, subst, append-nil, is_some}
+use Rattle.std.proofs.Common.{◌≡◌, ◌≢◌, ℕ, zero, suc, Bool, true, false, List, [], ◌∷◌, ◌++◌, map, slice_get, slice_set, Option, Some, None, refl, sym, ap, ◌∙◌, arith, inl, inr, subst, append-nil, is_some}
 use Rattle.std.proofs.lemmas.Bool.Decides.{nat_tests}
 use Rattle.std.proofs.lemmas.Bool.{cases_Bool}
-use Rattle.std.specs.Prelude.{◌==◌, slice_index, filter, option_and_then}
-use Rattle.std.specs.Option.{option_map, option_map_or}
+use Rattle.std.specs.Prelude.{◌==◌, option_and_then}
+use Rattle.std.specs.Option.{option_map}
 use Rattle.sim_base.specs.declared.ends.End.{End}
 use Rattle.sim_base.specs.declared.ends.Cause.{Cause}
 use Rattle.elf_image.specs.Layout.{Setup}
@@ -15,27 +15,26 @@ use Rattle.serving.specs.declared.control_data.Request.TheVariants.{Exit as Exit
 use Rattle.serving.specs.ControlData.{ControlData}
 use Rattle.serving.specs.Join.{joiner_by, joiner_of}
 use Rattle.serving.specs.Serving.{Served, ended, joiner_woken, leave}
-use Rattle.flat_machine.specs.declared.threads.Thread.{Thread}
 use Rattle.flat_machine.specs.declared.threads.Status.{Status as FlatStatus}
 use Rattle.flat_machine.specs.declared.threads.Status.TheVariants.{Answered, Parked, Gone, Left}
 use Rattle.flat_machine.specs.State.{State as Flat, with_status}
 use Rattle.flat_machine.specs.Serving.{fate_of, control_of, with_fates, woken_threads, after_serving}
 use Rattle.flat_machine.specs.Inner.{with_joiner}
 use Rattle.flat_machine.proofs.ServingLemmas.{same_fates, one_fate, fates_gone, fates_joined_by}
-use Rattle.control_server.specs.Control.{Control, Waiting, Check, waits as is_by}
+use Rattle.control_server.specs.Control.{Control, Waiting, Check}
 use Rattle.control_server.specs.Serve.{left_by, join_all, woken_mail}
 use Rattle.event_journal.specs.State.{State}
 use Rattle.node_machine.specs.declared.nodes.Node.{Node}
-use Rattle.agreement_laws.specs.Phases.{Hart, exiting}
-use Rattle.agreement_laws.specs.Sides.{Side, side, side_of, place_of, keys_of}
+use Rattle.agreement_laws.specs.Phases.{Hart}
+use Rattle.agreement_laws.specs.Sides.{Side, side_of, place_of, keys_of}
 use Rattle.agreement_laws.specs.Kept.{Kept}
 use Rattle.agreement_laws.proofs.Moves.{equal}
 use Rattle.agreement_laws.proofs.AfterServing.{IsLiveIn, fates_status}
-use Rattle.agreement_laws.proofs.Threads.{get_map, get_set_here}
+use Rattle.agreement_laws.proofs.Threads.{get_set_here}
 use Rattle.agreement_laws.proofs.Posting.{post, kept_joined}
-use Rattle.agreement_laws.proofs.Callers.{FlatTurns, status_turns, IsAsker, OwnPart, caller_lost}
-use Rattle.agreement_laws.proofs.Wakes.{GetsAnswer, live_in, parked_status, joiner_is, joiner_woken as wakes_joiner, joiner_parked}
-use Rattle.agreement_laws.proofs.Births.{IsLeaver, who_leaves, exit_moves, trap_moves, fates_are, out_of}
+use Rattle.agreement_laws.proofs.Callers.{FlatTurns, status_turns, IsAsker, caller_lost}
+use Rattle.agreement_laws.proofs.Wakes.{live_in, parked_status, joiner_is, joiner_woken as wakes_joiner, joiner_parked}
+use Rattle.agreement_laws.proofs.Births.{IsLeaver, who_leaves, exit_moves, trap_moves, fates_are}
 use Rattle.agreement_laws.proofs.Serves.{IsServed, served_control, shows_made, asker_keys, asker_reports}
 use Rattle.agreement_laws.proofs.ServesParked.{joiner_status, joiner_place, turns_from}
 

@@ -1,17 +1,14 @@
 -- Requests whose caller is parked: a futex wait and a join.
-use Rattle.std.proofs.Common.{◌≡◌, ◌≢◌, ℕ, zero, suc, ◌+◌, ◌<◌, Bool, true, false, cond, List, [], ◌∷◌, ◌++◌, length, map, slice_get, slice_set, Option, Some, None, refl, sym, ap, ◌∙◌, arith, inl, inr, subst, append-nil}
-use Rattle.std.specs.Prelude.{◌==◌, slice_index, filter, option_and_then}
+use Rattle.std.proofs.Common.{◌≡◌, ℕ, zero, suc, ◌+◌, ◌<◌, Bool, true, false, cond, List, [], ◌∷◌, ◌++◌, length, map, slice_get, slice_set, Option, Some, None, refl, sym, ap, ◌∙◌, arith, append-nil}
+use Rattle.std.specs.Prelude.{◌==◌, option_and_then}
 use Rattle.std.specs.Option.{option_map, option_map_or}
 use Rattle.sim_base.specs.declared.ends.End.{End}
 use Rattle.elf_image.specs.Layout.{Setup}
 use Rattle.wire_msg.specs.declared.calls.Call.{Call as CallOf}
-use Rattle.wire_msg.specs.declared.calls.Call.TheVariants.{Join as JoinCall, FutexWait}
 use Rattle.wire_msg.specs.declared.messages.Msg.{Msg}
 use Rattle.serving.specs.declared.control_data.Fate.{Fate}
 use Rattle.serving.specs.declared.control_data.Fate.TheVariants.{Live, Exited}
-use Rattle.serving.specs.declared.control_data.Join.{Join}
-use Rattle.serving.specs.declared.control_data.Join.TheVariants.{Code, Parked as ParkedJoin, NoThread, Invalid}
-use Rattle.serving.specs.declared.control_data.Waiter.{Waiter}
+use Rattle.serving.specs.declared.control_data.Join.TheVariants.{Code, Parked as ParkedJoin, Invalid}
 use Rattle.serving.specs.ControlData.{ControlData, is_joiner}
 use Rattle.serving.specs.Join.{join_by, join_of}
 use Rattle.serving.specs.Serving.{Served, park}
@@ -19,22 +16,21 @@ use Rattle.flat_machine.specs.declared.threads.Thread.{Thread}
 use Rattle.flat_machine.specs.declared.threads.Status.{Status as FlatStatus}
 use Rattle.flat_machine.specs.declared.threads.Status.TheVariants.{Parked}
 use Rattle.flat_machine.specs.State.{State as Flat, with_status}
-use Rattle.flat_machine.specs.Serving.{fate_of, control_of, with_fate, with_fates, after_serving}
+use Rattle.flat_machine.specs.Serving.{fate_of, with_fates, after_serving}
 use Rattle.flat_machine.specs.Inner.{with_joiner}
 use Rattle.flat_machine.proofs.ServingLemmas.{same_fates, one_fate, fates_joined_by}
-use Rattle.control_server.specs.Control.{Control, Waiting, Check, waits as is_by}
+use Rattle.control_server.specs.Control.{Control, Waiting, Check}
 use Rattle.control_server.specs.Serve.{left_by}
 use Rattle.event_journal.specs.State.{State}
 use Rattle.node_machine.specs.declared.nodes.Node.{Node}
-use Rattle.agreement_laws.specs.Phases.{Hart, Key, word, ending, status_asking}
-use Rattle.agreement_laws.specs.Sides.{Side, side, place_of, targets_of, keys_of, reports_of}
+use Rattle.agreement_laws.specs.Phases.{Hart, word, ending, status_asking}
+use Rattle.agreement_laws.specs.Sides.{place_of, targets_of}
 use Rattle.agreement_laws.specs.Kept.{Kept}
 use Rattle.agreement_laws.proofs.Moves.{same_is}
 use Rattle.agreement_laws.proofs.Joins.{words_of, words_here, words_there, targets_here, targets_same}
 use Rattle.agreement_laws.proofs.AfterServing.{IsLiveIn, fates_status}
 use Rattle.agreement_laws.proofs.Reporting.{reports_left, reports_left_there}
-use Rattle.agreement_laws.proofs.Posting.{post}
-use Rattle.agreement_laws.proofs.Callers.{FlatTurns, status_turns, IsAsker, OwnPart, flat_status, flat_place, caller_parked}
+use Rattle.agreement_laws.proofs.Callers.{FlatTurns, status_turns, IsAsker, flat_status, flat_place, caller_parked}
 use Rattle.agreement_laws.proofs.Wakes.{live_in}
 use Rattle.agreement_laws.proofs.Births.{fates_are, out_of}
 use Rattle.agreement_laws.proofs.Serves.{IsServed, served_control, shows_made, lives_asking, asker_lives, asker_keys}

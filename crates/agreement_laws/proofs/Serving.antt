@@ -1,15 +1,11 @@
 -- The control server serves: the same request is legal on the flat machine, and all is kept, with the epoch's advance.
-use Rattle.std.proofs.Common.{◌≡◌, ◌≢◌, ℕ, ◌+◌, ◌<◌, ◌^◌, ◌%◌, Bool, true, false, not, cond, ◌&&◌, List, [], ◌∷◌, ◌++◌, length, map, slice_get, Option, Some, None, refl, sym, ap, ◌∙◌, arith, inl, inr, subst, append_assoc, is_some}
+use Rattle.std.proofs.Common.{◌≡◌, ℕ, ◌<◌, Bool, true, false, not, ◌&&◌, List, [], ◌∷◌, ◌++◌, slice_get, Option, Some, None, refl, sym, ap, ◌∙◌, subst, append_assoc, is_some}
 use Rattle.std.proofs.lemmas.List.Elements.{All-tail}
-use Rattle.std.specs.Prelude.{◌≤◌, ◌==◌, All, option_and_then}
-use Rattle.std.specs.List.{list_any}
+use Rattle.std.specs.Prelude.{All}
 use Rattle.std.specs.Option.{option_map}
-use Rattle.sim_base.specs.declared.actions.Action.{Action}
 use Rattle.sim_base.specs.declared.actions.Action.TheVariants.{Serve}
-use Rattle.sim_base.specs.declared.ends.End.{End}
 use Rattle.sim_base.specs.Numbering.{control_node, home_of}
 use Rattle.elf_image.specs.Layout.{Setup}
-use Rattle.wire_msg.specs.declared.calls.Call.{Call as CallOf}
 use Rattle.wire_msg.specs.declared.calls.Call.TheVariants.{Spawn, Join as JoinCall, Write, FutexWait, FutexWake, Brk, ExitGroup}
 use Rattle.wire_msg.specs.declared.messages.Msg.{Msg}
 use Rattle.serving.specs.declared.control_data.Request.{Request}
@@ -24,25 +20,25 @@ use Rattle.flat_machine.specs.State.{State as Flat}
 use Rattle.flat_machine.specs.Serving.{request_of, word_of, after_serving, after_request}
 use Rattle.flat_machine.specs.Action.{act}
 use Rattle.flat_machine.proofs.ServingLemmas.{is_served}
-use Rattle.control_server.specs.Control.{Control, Act, Waiting, Check, waits, IsAsked, AreApart, IsCheckable, IsCheckableIfAny, IsOrderly}
+use Rattle.control_server.specs.Control.{Control, Act, Waiting, Check, IsAsked, AreApart, IsCheckable, IsCheckableIfAny, IsOrderly}
 use Rattle.control_server.specs.Deliver.{request_of as request_of_check}
-use Rattle.control_server.specs.Serve.{freest_host, free_left, free_born, epochs_served, may_close, epochs_closed, limits_closed, woken_mail, born_mail, own_mail, settled, serves, checks, begins, step_by, control_step, can_step, line_at, none_waits}
+use Rattle.control_server.specs.Serve.{freest_host, free_left, free_born, epochs_served, may_close, limits_closed, woken_mail, born_mail, own_mail, settled, serves, checks, begins, step_by, control_step, can_step, line_at, none_waits}
 use Rattle.control_server.proofs.Freest.{freest_in_range}
 use Rattle.event_journal.specs.Rules.{Change}
 use Rattle.event_journal.specs.State.{State, changed}
 use Rattle.node_machine.specs.declared.nodes.Node.{Node}
 use Rattle.node_machine.specs.declared.nodes.Node.TheVariants.{Control as ControlNode}
-use Rattle.agreement_laws.specs.Phases.{Hart, Ask, call_of, status_asking}
-use Rattle.agreement_laws.specs.Sides.{Side, side, side_of}
+use Rattle.agreement_laws.specs.Phases.{status_asking}
+use Rattle.agreement_laws.specs.Sides.{Side, side_of}
 use Rattle.agreement_laws.specs.Kept.{Kept}
 use Rattle.agreement_laws.specs.Whole.{acted}
 use Rattle.agreement_laws.proofs.Answering.{asks_call}
 use Rattle.agreement_laws.proofs.Closing.{closing_by}
 use Rattle.agreement_laws.proofs.Posting.{post, kept_posted, kept_joined}
-use Rattle.agreement_laws.proofs.Callers.{IsAsker, asks_first, asks_checked, flat_status, caller_checked}
+use Rattle.agreement_laws.proofs.Callers.{asks_first, asks_checked, flat_status, caller_checked}
 use Rattle.agreement_laws.proofs.Births.{who_leaves, who_trapped}
 use Rattle.agreement_laws.proofs.Epochs.{closed_kept}
-use Rattle.agreement_laws.proofs.Serves.{served_control, served_mail}
+use Rattle.agreement_laws.proofs.Serves.{served_mail}
 use Rattle.agreement_laws.proofs.Outcomes.{Outcome, is_wait, wait_outcome, request_outcome}
 
 -- the event that an act of the control server is

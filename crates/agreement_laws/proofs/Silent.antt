@@ -1,5 +1,5 @@
 -- Steps of a tile that commit nothing: the barrier, the probe, a write that is sent, and a byte whose line is missed.
-use Rattle.std.proofs.Common.{◌≡◌, ◌≢◌, ℕ, ◌<◌, ◌≤◌, Bool, true, false, List, [], ◌∷◌, length, Option, Some, None, refl, sym, ap, ◌∙◌, arith}
+use Rattle.std.proofs.Common.{◌≡◌, ℕ, ◌<◌, ◌≤◌, Bool, true, false, [], ◌∷◌, length, Some, None, refl, ap, arith}
 use Rattle.std.proofs.lemmas.Bool.Decides.{nat_tests}
 use Rattle.std.specs.Prelude.{◌==◌}
 use Rattle.sim_base.specs.Numbering.{home_of, control_node, local_node, host_of}
@@ -7,7 +7,8 @@ use Rattle.elf_image.specs.Layout.{Setup}
 use Rattle.wire_msg.specs.declared.calls.Call.TheVariants.{Write as WriteCall}
 use Rattle.wire_msg.specs.declared.messages.Msg.{Msg}
 use Rattle.wire_msg.specs.declared.messages.Msg.TheVariants.{Call, Reached, Probe}
-use Rattle.wire_msg.specs.Message.{asks}
+use Rattle.wire_msg.specs.declared.lines.Up.TheVariants.{Asks}
+use Rattle.wire_msg.specs.declared.lines.Want.TheVariants.{Read}
 use Rattle.clock_policy.specs.Probe.{partner_of}
 use Rattle.flat_machine.specs.State.{State as Flat}
 use Rattle.tile_core.specs.declared.cores.Status.TheVariants.{Writing}
@@ -97,12 +98,12 @@ sent_kept {w} {s} {c} {f} k x t low is so all =
 
 -- A BYTE whose line isn't there: the thread waits for the line
 pub missed_kept : {w : Setup} {s : State Node Msg} {c : Control} {f : Flat} (k : Kept w s c f) (x : ℕ) (t : TileData) (line : ℕ) → x < w.config.tiles → s.node x ≡ Tile t → t.core.status ≡ Writing
-    → Kept w (changed s x (change_of (of_tile (misses_line w t line false None)))) c f
+    → Kept w (changed s x (change_of (of_tile (misses_line w t line Read None)))) c f
 missed_kept {w} {s} {c} {f} k x t line low is so =
     let h : Hart = record { tile = x; regs = t.core.regs; pc = t.core.pc } in
     let u : ℕ = t.core.thread in
     let home : ℕ = home_of w.config line in
     let phase = writes_here k x t low is so in
-    turns k (changed s x (change_of (of_tile (misses_line w t line false None)))) x u t.core.regs t.core.pc (writes t.core.write) (on h (misses_byte t.core.write)) phase refl (changed_elsewhere w s x (change_of (of_tile (misses_line w t line false None))) low) (λ host. refl) tt (low, tt, tt)
-    (spot_acts w s x (misses_line w t line false None).tile ((home, up_message line (asks false)) ∷ []) _ _ low (spot_on k x u _ low phase refl) refl (asks_silent line home false (control_node w.config))
-    (asks_silent line home false (local_node w.config (host_of w.config x))) refl refl)
+    turns k (changed s x (change_of (of_tile (misses_line w t line Read None)))) x u t.core.regs t.core.pc (writes t.core.write) (on h (misses_byte t.core.write)) phase refl (changed_elsewhere w s x (change_of (of_tile (misses_line w t line Read None))) low) (λ host. refl) tt (low, tt, tt)
+    (spot_acts w s x (misses_line w t line Read None).tile ((home, up_message line (Asks Read)) ∷ []) _ _ low (spot_on k x u _ low phase refl) refl (asks_silent line home Read (control_node w.config))
+    (asks_silent line home Read (local_node w.config (host_of w.config x))) refl refl)

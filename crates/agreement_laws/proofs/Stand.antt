@@ -1,8 +1,8 @@
 -- What an event leaves of reservations on the flat machine; and what each event that commits has to give.
-use Rattle.std.proofs.Common.{◌≡◌, ◌≢◌, ℕ, ◌<◌, Bool, true, false, List, [], ◌∷◌, slice_get, slice_set, Option, Some, None, refl, sym, ap, ◌∙◌, arith, inl, inr, subst}
+use Rattle.std.proofs.Common.{◌≡◌, ◌≢◌, ℕ, ◌<◌, true, false, slice_get, slice_set, Option, Some, None, refl, sym, ap, ◌∙◌, arith, inl, inr, subst}
 use Rattle.std.proofs.lemmas.Bool.Decides.{nat_tests}
 use Rattle.std.proofs.lemmas.Bool.{cases_Bool}
-use Rattle.std.specs.Prelude.{◌==◌, ◌/◌, ◌%◌, map, slice_index}
+use Rattle.std.specs.Prelude.{◌==◌, ◌/◌, ◌%◌, slice_index}
 use Rattle.std.specs.Option.{option_map}
 use Rattle.sim_base.specs.declared.actions.Action.{Action}
 use Rattle.sim_base.specs.declared.lines.LineData.{LineData}
@@ -11,8 +11,8 @@ use Rattle.wire_msg.specs.declared.messages.Msg.{Msg}
 use Rattle.rv_hart.specs.declared.reservations.Span.{Span}
 use Rattle.flat_machine.specs.declared.threads.Thread.{Thread}
 use Rattle.flat_machine.specs.State.{State as Flat, with_thread}
-use Rattle.flat_machine.specs.Reservation.{share_byte, unless_written, without_reservation, others_end}
-use Rattle.flat_machine.specs.Action.{Change, with_change, act}
+use Rattle.flat_machine.specs.Reservation.{share_byte, unless_written, without_reservation}
+use Rattle.flat_machine.specs.Action.{with_change, act}
 use Rattle.tile_core.specs.declared.cores.Status.TheVariants.{Idle}
 use Rattle.tile_node.specs.Tile.{Tile as TileData}
 use Rattle.control_server.specs.Control.{Control}
@@ -20,8 +20,6 @@ use Rattle.event_journal.specs.State.{State}
 use Rattle.node_machine.specs.declared.nodes.Node.{Node}
 use Rattle.node_machine.specs.declared.nodes.Node.TheVariants.{Tile}
 use Rattle.coherence_laws.proofs.Holds.{IsNodeOf}
-use Rattle.agreement_laws.specs.Agreement.{byte_in}
-use Rattle.agreement_laws.specs.Phases.{Hart, Phase, tile_of}
 use Rattle.agreement_laws.specs.Spots.{Sitting, sitting_in, core_in, Spot, spot_at, spot_of}
 use Rattle.agreement_laws.specs.Kept.{Kept}
 use Rattle.agreement_laws.specs.Whole.{Memory, AgreesOn, StandsToo, ReservationsStand, acted}

@@ -1,11 +1,12 @@
 -- What a step of a tile makes of the values of lines: only an access that hits changes one.
-use Rattle.std.proofs.Common.{◌≡◌, ℕ, Bool, true, false, cond, Option, Some, None, refl, sym, ap, ◌∙◌, subst}
+use Rattle.std.proofs.Common.{◌≡◌, ℕ, Bool, true, false, Option, Some, None, refl, ap, ◌∙◌}
 use Rattle.std.proofs.lemmas.Bool.{cond-true, cond-false}
 use Rattle.std.specs.Prelude.{◌==◌, if◌then◌else◌}
 use Rattle.sim_base.specs.declared.lines.LineData.{LineData}
 use Rattle.rv_exec.specs.Access.{Asked}
 use Rattle.elf_image.specs.Layout.{Setup}
 use Rattle.wire_msg.specs.declared.messages.Msg.{Msg}
+use Rattle.wire_msg.specs.declared.lines.Want.{Want}
 use Rattle.tile_cache.specs.declared.ways.Way.{Way}
 use Rattle.tile_cache.specs.Cache.{way_of}
 use Rattle.tile_core.specs.declared.cores.Status.{Status}
@@ -17,7 +18,7 @@ use Rattle.tile_core.specs.Plan.{plan_of}
 use Rattle.tile_node.specs.Tile.{Tile as TileData, suits}
 use Rattle.tile_node.specs.Step.{is_writing, waits_for_limit, looks_around}
 use Rattle.tile_node.specs.Deliver.{hold_suits}
-use Rattle.tile_node.specs.OneLine.{wants_write, data_after, Happening, nothing, hit, asked, at_line, needs, needs_at, follows_at, writes_at, works_at, step_at}
+use Rattle.tile_node.specs.OneLine.{want_for, data_after, Happening, nothing, hit, asked, needs, needs_at, follows_at, writes_at, step_at}
 use Rattle.event_journal.specs.declared.events.Event.TheVariants.{Step}
 use Rattle.event_journal.specs.State.{State}
 use Rattle.node_machine.specs.declared.nodes.Node.{Node}
@@ -35,8 +36,8 @@ pub if_same : (b : Bool) (h g : Happening) → SameValue h → SameValue g → S
 if_same true h g a c = a
 if_same false h g a c = c
 
-asked_same : (write : Bool) → SameValue (asked write)
-asked_same write = record { same = λ status v. refl }
+asked_same : (want : Want) → SameValue (asked want)
+asked_same want = record { same = λ status v. refl }
 
 byte_same : (o : Option Way) → SameValue (needs None o)
 byte_same None = asked_same _
@@ -50,7 +51,7 @@ writes_same t k =
 -- an access that misses
 missed_by : (access : Asked) (o : Option Way) → ((way : Way) → o ≡ Some way → suits access.op way.hold ≡ false) → SameValue (needs (Some access) o)
 missed_by access None miss = asked_same _
-missed_by access (Some way) miss = record { same = λ status v. ap (λ h. value_after status h v) (cond-false (hold_suits (Some access) way.hold) (hit (data_after (Some access))) (asked (wants_write (Some access))) (miss way refl)) }
+missed_by access (Some way) miss = record { same = λ status v. ap (λ h. value_after status h v) (cond-false (hold_suits (Some access) way.hold) (hit (data_after (Some access))) (asked (want_for (Some access))) (miss way refl)) }
 
 pub missed_same : (t : TileData) (access : Asked) (k : ℕ) → ((way : Way) → way_of t.cache (line_at access.addr) ≡ Some way → suits access.op way.hold ≡ false) → SameValue (follows_at t (Access access) k)
 missed_same t access k miss =

@@ -1,43 +1,40 @@
 -- What the control server takes from tiles and hosts: calls, traps and exits join the backlog, or are dropped after the end;
 -- reports are noted.
-use Rattle.std.proofs.Common.{◌≡◌, ◌≢◌, ℕ, zero, suc, ◌+◌, ◌<◌, Bool, true, false, not, cond, ◌&&◌, List, [], ◌∷◌, ◌++◌, map, slice_get, slice_set, Option, Some, None, refl, sym, ap, ◌∙◌, arith, ◌⊎◌, inl, inr, subst}
+use Rattle.std.proofs.Common.{◌≡◌, ℕ, zero, suc, ◌<◌, true, false, ◌&&◌, List, [], ◌∷◌, ◌++◌, map, slice_set, Option, Some, None, refl, sym, ap, ◌∙◌, arith, inl, inr, subst}
 use Rattle.std.proofs.lemmas.Bool.Decides.{nat_tests}
 use Rattle.std.proofs.lemmas.Bool.{cases_Bool, cond-true, cond-false}
-use Rattle.std.specs.Prelude.{◌==◌, ◌||◌, if◌then◌else◌, filter, slice_index, length, option_and_then}
+use Rattle.std.specs.Prelude.{◌==◌, if◌then◌else◌, filter, slice_index, length}
 use Rattle.std.specs.List.{list_any}
-use Rattle.std.specs.Option.{option_map, option_map_or}
 use Rattle.sim_base.specs.Numbering.{control_node, local_node, host_of}
 use Rattle.sim_base.specs.declared.ends.End.{End}
 use Rattle.sim_base.specs.declared.ends.Cause.{Cause}
 use Rattle.elf_image.specs.Layout.{Setup}
 use Rattle.wire_msg.specs.declared.calls.Call.{Call as CallOf}
 use Rattle.wire_msg.specs.declared.messages.Msg.{Msg}
-use Rattle.wire_msg.specs.declared.messages.Msg.TheVariants.{Call, Exit, Trapped, Reached}
-use Rattle.serving.specs.declared.control_data.Fate.{Fate}
+use Rattle.wire_msg.specs.declared.messages.Msg.TheVariants.{Call, Trapped, Reached}
 use Rattle.serving.specs.declared.control_data.Fate.TheVariants.{Live}
-use Rattle.serving.specs.declared.control_data.Request.TheVariants.{Call as CallRequest, Exit as ExitRequest, Trap as TrapRequest}
+use Rattle.serving.specs.declared.control_data.Request.TheVariants.{Call as CallRequest, Trap as TrapRequest}
 use Rattle.clock_policy.specs.Members.{reported, standing}
 use Rattle.flat_machine.specs.declared.threads.Status.{Status as FlatStatus}
-use Rattle.flat_machine.specs.declared.threads.Status.TheVariants.{Left, Trapped as FlatTrapped}
+use Rattle.flat_machine.specs.declared.threads.Status.TheVariants.{Trapped as FlatTrapped}
 use Rattle.flat_machine.specs.State.{State as Flat}
-use Rattle.control_server.specs.Control.{Control, Act, Waiting, Check, waits as is_by, is_active, is_checked, has_request, is_placed, quiet}
-use Rattle.control_server.specs.Deliver.{admits, admitted, request_taken, call_taken, reached_taken, taken_by}
+use Rattle.control_server.specs.Control.{Control, Act, Waiting, Check, waits as is_by, is_active, is_checked, is_placed, quiet}
+use Rattle.control_server.specs.Deliver.{admits, admitted, reached_taken, taken_by}
 use Rattle.event_journal.specs.State.{State, with_queue, changed}
 use Rattle.node_machine.specs.declared.nodes.Node.{Node}
 use Rattle.node_machine.specs.declared.nodes.Node.TheVariants.{Control as ControlNode}
-use Rattle.agreement_laws.specs.Seen.{is_of_threads, names, of_threads, naming, starts_of, exits_of}
-use Rattle.agreement_laws.specs.Phases.{Hart, Work, Report, on_way, noted, limited, unheard, Going, runs, misses, writes, misses_byte, stops, probes, Ask, call_of, status_asking, Phase, on, calling, asking, lost, traps, trapping, trapped, passing, exiting, vanished, tile_of}
-use Rattle.agreement_laws.specs.Sides.{Side, side, side_of, there, asked, keys_of, checked_of, reports_of}
+use Rattle.agreement_laws.specs.Seen.{is_of_threads, of_threads, naming}
+use Rattle.agreement_laws.specs.Phases.{Hart, Work, on_way, noted, limited, unheard, Going, runs, misses, writes, misses_byte, stops, probes, Ask, call_of, status_asking, Phase, on, calling, asking, lost, traps, trapping, trapped, tile_of}
+use Rattle.agreement_laws.specs.Sides.{Side, side, side_of, asked, checked_of}
 use Rattle.agreement_laws.specs.Spots.{Spot, spot, spot_at, spot_of, reports_way}
-use Rattle.agreement_laws.specs.Kept.{KnowsTile, Fit, Kept}
-use Rattle.agreement_laws.proofs.Moves.{Move, moves, is, equal, same_is}
+use Rattle.agreement_laws.specs.Kept.{Fit, Kept}
+use Rattle.agreement_laws.proofs.Moves.{moves, is, equal, same_is}
 use Rattle.agreement_laws.proofs.AfterServing.{Lives, IsLiveIn}
-use Rattle.agreement_laws.proofs.Views.{first_kept, first_passed, taken_here, taken_there, taken_elsewhere}
+use Rattle.agreement_laws.proofs.Views.{first_kept, taken_here, taken_there, taken_elsewhere}
 use Rattle.agreement_laws.proofs.AtTile.{Elsewhere, free_seat}
 use Rattle.agreement_laws.proofs.LocalStep.{turned, above, past, same_spot}
 use Rattle.agreement_laws.proofs.Reporting.{now_at, reports_made, reports_made_there}
-use Rattle.agreement_laws.proofs.Posting.{SameOf, Turns, side_now, side_still, low_not, local_not, some_of, post, kept_posted, kept_unsent}
-use Rattle.agreement_laws.proofs.Callers.{backlog_tail}
+use Rattle.agreement_laws.proofs.Posting.{Turns, side_now, side_still, local_not, kept_posted, kept_unsent}
 use Rattle.agreement_laws.proofs.Wakes.{live_in}
 use Rattle.agreement_laws.proofs.Births.{fates_are}
 use Rattle.agreement_laws.proofs.Serves.{lives_asking}

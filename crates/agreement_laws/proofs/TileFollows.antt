@@ -1,24 +1,24 @@
 -- A step of a tile, put together: by its plan, by its write, and by the policies.
-use Rattle.std.proofs.Common.{◌≡◌, ◌≢◌, ℕ, ◌+◌, ◌≤◌, ◌<◌, Bool, true, false, List, [], ◌∷◌, slice_get, Option, Some, None, refl, sym, ap, ◌∙◌, inl, inr, subst}
+use Rattle.std.proofs.Common.{◌≡◌, ◌≢◌, ℕ, ◌<◌, true, false, [], slice_get, Option, Some, None, refl, sym, ap, ◌∙◌, inl, inr, subst}
 use Rattle.std.proofs.lemmas.Bool.{cases_Bool, cond-true, cond-false}
-use Rattle.std.specs.Prelude.{◌/◌, ◌%◌, ◌==◌, if◌then◌else◌, slice_index}
+use Rattle.std.specs.Prelude.{if◌then◌else◌, slice_index}
 use Rattle.std.specs.Option.{option_map}
 use Rattle.sim_base.specs.declared.actions.Action.TheVariants.{Exec, FailSc, Load as LoadByte}
 use Rattle.sim_base.specs.declared.lines.LineData.{LineData}
 use Rattle.rv_exec.specs.Access.{Asked}
-use Rattle.rv_hart.specs.declared.reservations.Span.{Span}
 use Rattle.rv_hart.specs.Reservation.{is_conditional}
 use Rattle.rv_hart.specs.Step.{next_step}
 use Rattle.rv_hart.specs.declared.steps.Step.TheVariants.{Access as AccessStep}
 use Rattle.rv_exec.specs.Registers.{with_register}
 use Rattle.elf_image.specs.Layout.{Setup}
 use Rattle.wire_msg.specs.declared.messages.Msg.{Msg}
+use Rattle.wire_msg.specs.declared.lines.Want.TheVariants.{Read as ToRead}
 use Rattle.flat_machine.specs.declared.threads.Thread.{Thread}
 use Rattle.flat_machine.specs.declared.threads.Status.TheVariants.{Ready, Asked as FlatAsked, Writing as FlatWriting, Left, Trapped as FlatTrapped}
 use Rattle.flat_machine.specs.State.{State as Flat}
 use Rattle.flat_machine.specs.Action.{failed_conditional}
 use Rattle.tile_cache.specs.declared.ways.Way.{Way}
-use Rattle.tile_cache.specs.Cache.{way_of, touched}
+use Rattle.tile_cache.specs.Cache.{way_of}
 use Rattle.tile_cache.specs.Copy.{copy_of}
 use Rattle.tile_core.specs.declared.cores.Status.{Status}
 use Rattle.tile_core.specs.declared.cores.Status.TheVariants.{Idle, Run, Miss, Called, Writing, AtBarrier, Probing, Trapped}
@@ -27,7 +27,7 @@ use Rattle.tile_core.specs.declared.plans.Plan.TheVariants.{Local, Access, ScFai
 use Rattle.tile_core.specs.Gathering.{is_gathered, with_byte}
 use Rattle.tile_core.specs.Core.{line_at, next_byte}
 use Rattle.tile_core.specs.Plan.{plan_of}
-use Rattle.tile_node.specs.Tile.{Tile as TileData, Act, suits, is_write, with_byte_got, one_more, place_in_line}
+use Rattle.tile_node.specs.Tile.{Tile as TileData, Act, suits, access_want, place_in_line}
 use Rattle.tile_node.specs.Step.{steps_in, is_writing, waits_for_limit, looks_around, reaches, probes, misses, sends_write, reads_byte_by, writes, follows, accesses, accesses_by, does_locally, fails_conditional, sends_call, exits, begins_write, traps, works, tile_step}
 use Rattle.tile_node.specs.OneLine.{nothing}
 use Rattle.event_journal.specs.declared.events.Event.TheVariants.{Step}
@@ -39,10 +39,9 @@ use Rattle.coherence_laws.specs.Part.{copy_at}
 use Rattle.coherence_laws.specs.Coherence.{HasData}
 use Rattle.coherence_laws.proofs.Events.{Sound, values_after, holds_coherent}
 use Rattle.coherence_laws.proofs.Holds.{IsNodeOf}
-use Rattle.agreement_laws.specs.Phases.{Hart, on}
+use Rattle.agreement_laws.specs.Phases.{Hart}
 use Rattle.agreement_laws.specs.Phases.{writes as writes_phase}
 use Rattle.agreement_laws.specs.Spots.{writing, Sitting, stance_in, sitting_in}
-use Rattle.agreement_laws.specs.Kept.{Pends, Kept}
 use Rattle.agreement_laws.specs.Whole.{StandsToo}
 use Rattle.agreement_laws.proofs.LocalStep.{changed_elsewhere, local_kept}
 use Rattle.agreement_laws.proofs.Sending.{call_kept, trap_kept, exit_kept, spot_acts}
@@ -66,7 +65,7 @@ pub record IsFree (w : Setup) (t : TileData) : Type 0 where
 -- AN ACCESS THAT MISSES isn't conditional
 missed_act : {w : Setup} {s : State Node Msg} {value : ℕ → LineData} {f : Flat} (a : All w s value f) (x : ℕ) (t : TileData) (access : Asked) → x < w.config.tiles → s.node x ≡ Tile t → t.core.status ≡ Run
     → IsFree w t → plan_of w t.core ≡ Access access → ((way : Way) → way_of t.cache (line_at access.addr) ≡ Some way → suits access.op way.hold ≡ false)
-    → Outcome w s value f a x (misses w t (line_at access.addr) (is_write access.op) (Some access))
+    → Outcome w s value f a x (misses w t (line_at access.addr) (access_want access.op) (Some access))
 missed_act {w} {s} {value} {f} a x t access low is run free plan miss =
     let core = t.core in
     let busy : t.core.status ≢ Idle = λ e. (let z : Run ≡ Idle = sym run ∙ e in cc) in
@@ -76,15 +75,15 @@ missed_act {w} {s} {value} {f} a x t access low is run free plan miss =
           let no : suits access.op hit.0.hold ≡ false = miss hit.0 hit.1 in let yes : suits access.op hit.0.hold ≡ true = hit.2 in cc)
       | inr n ↦ n
     ] in
-    let kept = miss_kept a.whole.threads x t (line_at access.addr) (is_write access.op) access low is run (pends w core.regs core.pc core.reservation core.thread access asks plain) in
-    silent_act a x t (misses w t (line_at access.addr) (is_write access.op) (Some access)) is busy refl refl refl
+    let kept = miss_kept a.whole.threads x t (line_at access.addr) (access_want access.op) access low is run (pends w core.regs core.pc core.reservation core.thread access asks plain) in
+    silent_act a x t (misses w t (line_at access.addr) (access_want access.op) (Some access)) is busy refl refl refl
     (λ k. stepped_same w s x t value k _ is (following_at w t k (Access access) free.limit free.alone (ap is_writing run) plan) (missed_same t access k miss)) kept.1
 
 access_act : {w : Setup} {s : State Node Msg} {value : ℕ → LineData} {f : Flat} (a : All w s value f) (x : ℕ) (t : TileData) (access : Asked) → x < w.config.tiles → s.node x ≡ Tile t → t.core.status ≡ Run
     → IsFree w t → plan_of w t.core ≡ Access access → tile_step w t ≡ accesses w t access → Sound w (changed s x (change_of (of_tile (tile_step w t)))) (values_after w s (Step x) value)
     → Outcome w s value f a x (accesses w t access)
 access_act {w} {s} {value} {f} a x t access low is run free plan step after = by_way (way_of t.cache (line_at access.addr)) refl where
-  missed : ((way : Way) → way_of t.cache (line_at access.addr) ≡ Some way → suits access.op way.hold ≡ false) → accesses w t access ≡ misses w t (line_at access.addr) (is_write access.op) (Some access)
+  missed : ((way : Way) → way_of t.cache (line_at access.addr) ≡ Some way → suits access.op way.hold ≡ false) → accesses w t access ≡ misses w t (line_at access.addr) (access_want access.op) (Some access)
       → Outcome w s value f a x (accesses w t access)
   missed miss e = subst (Outcome w s value f a x) (sym e) (missed_act a x t access low is run free plan miss)
 
@@ -138,7 +137,7 @@ follow_act {w} {s} {value} {f} a x t plan low is number run free planned step af
 byte_act : {w : Setup} {s : State Node Msg} {value : ℕ → LineData} {f : Flat} (a : All w s value f) (x : ℕ) (t : TileData) (o : Option Way) → x < w.config.tiles → s.node x ≡ Tile t → t.core.status ≡ Writing → IsFree w t
     → is_gathered t.core.write ≡ false → way_of t.cache (line_at (next_byte t.core.write)) ≡ o → Outcome w s value f a x (reads_byte_by w t (next_byte t.core.write) o)
 byte_act {w} {s} {value} {f} a x t None low is so free more found =
-    silent_act a x t (misses w t (line_at (next_byte t.core.write)) false None) is (λ e. (let z : Writing ≡ Idle = sym so ∙ e in cc)) refl refl refl
+    silent_act a x t (misses w t (line_at (next_byte t.core.write)) ToRead None) is (λ e. (let z : Writing ≡ Idle = sym so ∙ e in cc)) refl refl refl
     (λ k. stepped_same w s x t value k _ is (writing_at w t k free.limit free.alone (ap is_writing so)) (writes_same t k)) (missed_kept a.whole.threads x t (line_at (next_byte t.core.write)) low is so)
 byte_act {w} {s} {value} {f} a x t (Some way) low is so free more found =
     let u : ℕ = t.core.thread in

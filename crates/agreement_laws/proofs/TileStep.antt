@@ -1,67 +1,51 @@
 -- Every step of a tile: what it commits is legal on the flat machine, and all is kept.
-use Rattle.std.proofs.Common.{◌≡◌, ◌≢◌, ℕ, ◌+◌, ◌≤◌, ◌<◌, Bool, true, false, List, [], ◌∷◌, slice_get, Option, Some, None, refl, sym, ap, ◌∙◌, inl, inr, subst}
-use Rattle.std.proofs.lemmas.Bool.{cases_Bool, cond-true, cond-false}
-use Rattle.std.specs.Prelude.{◌/◌, ◌%◌, ◌==◌, if◌then◌else◌}
+use Rattle.std.proofs.Common.{◌≡◌, ◌≢◌, ℕ, ◌+◌, ◌<◌, true, slice_get, Some, None, sym, ap, ◌∙◌, subst}
+use Rattle.std.proofs.lemmas.Bool.{cond-true}
+use Rattle.std.specs.Prelude.{◌==◌}
 use Rattle.std.specs.FinMap.{contains_key}
 use Rattle.sim_base.specs.declared.actions.Action.{Action}
-use Rattle.sim_base.specs.declared.actions.Action.TheVariants.{Exec, FailSc, Load as LoadByte}
 use Rattle.sim_base.specs.declared.lines.LineData.{LineData}
-use Rattle.sim_base.specs.Numbering.{node_count}
 use Rattle.rv_exec.specs.declared.access.AccessOp.{AccessOp}
 use Rattle.rv_exec.specs.declared.access.AccessOp.TheVariants.{Load, Store, Lr, Sc, Amo}
 use Rattle.rv_exec.specs.Access.{Asked}
-use Rattle.rv_hart.specs.declared.reservations.Span.{Span}
-use Rattle.rv_hart.specs.Reservation.{is_conditional}
 use Rattle.elf_image.specs.Layout.{Setup}
 use Rattle.wire_msg.specs.declared.messages.Msg.{Msg}
+use Rattle.wire_msg.specs.declared.lines.Want.TheVariants.{Write as ToWrite}
 use Rattle.flat_machine.specs.declared.threads.Thread.{Thread}
 use Rattle.flat_machine.specs.State.{State as Flat}
 use Rattle.tile_cache.specs.declared.ways.Hold.{Hold}
 use Rattle.tile_cache.specs.declared.ways.Hold.TheVariants.{S, M}
 use Rattle.tile_cache.specs.declared.ways.Way.{Way}
-use Rattle.tile_cache.specs.Cache.{way_of, touched}
+use Rattle.tile_cache.specs.Cache.{way_of}
 use Rattle.tile_cache.specs.Copy.{copy_of, copy_in, held_as}
 use Rattle.tile_core.specs.declared.cores.Status.{Status}
 use Rattle.tile_core.specs.declared.cores.Status.TheVariants.{Idle, Run, Miss, Called, Writing, AtBarrier, Probing, Trapped}
-use Rattle.tile_core.specs.declared.plans.Plan.{Plan}
-use Rattle.tile_core.specs.declared.plans.Plan.TheVariants.{Local, Access, ScFails, Send, Exit, Write, Trap}
-use Rattle.tile_core.specs.Gathering.{is_gathered, with_byte}
-use Rattle.tile_core.specs.Core.{line_at, next_byte}
+use Rattle.tile_core.specs.declared.plans.Plan.TheVariants.{Access}
+use Rattle.tile_core.specs.Core.{line_at}
 use Rattle.tile_core.specs.Plan.{plan_of}
-use Rattle.tile_node.specs.Tile.{Tile as TileData, Act, suits, is_write}
-use Rattle.tile_node.specs.Step.{steps_in, is_writing, waits_for_limit, looks_around, reaches, probes, misses, sends_write, reads_byte_by, writes, follows, accesses, accesses_by, works, tile_step}
-use Rattle.tile_node.specs.OneLine.{nothing}
+use Rattle.tile_node.specs.Tile.{Tile as TileData, Act, suits, access_want}
+use Rattle.tile_node.specs.Step.{steps_in, accesses, accesses_by, tile_step}
 use Rattle.event_journal.specs.declared.events.Event.TheVariants.{Step}
 use Rattle.event_journal.specs.State.{State, changed}
 use Rattle.node_machine.specs.declared.nodes.Node.{Node}
 use Rattle.node_machine.specs.declared.nodes.Node.TheVariants.{Tile}
 use Rattle.node_machine.specs.Machine.{change_of, of_tile}
 use Rattle.coherence_laws.specs.Part.{copy_at}
-use Rattle.coherence_laws.specs.Coherence.{IsWritable, HasData, OneWriterOrReaders}
+use Rattle.coherence_laws.specs.Coherence.{IsWritable, HasData}
 use Rattle.coherence_laws.proofs.Events.{Sound, values_after, holds_coherent}
 use Rattle.coherence_laws.proofs.Holds.{IsNodeOf}
-use Rattle.agreement_laws.specs.Phases.{Hart, on}
-use Rattle.agreement_laws.specs.Phases.{writes as writes_phase}
 use Rattle.agreement_laws.specs.Kept.{Kept}
 use Rattle.agreement_laws.specs.Whole.{StandsToo}
 use Rattle.agreement_laws.proofs.Moves.{same_is}
-use Rattle.agreement_laws.proofs.LocalStep.{node_other, changed_elsewhere, local_kept}
+use Rattle.agreement_laws.proofs.LocalStep.{node_other}
 use Rattle.agreement_laws.proofs.Steps.{line_after}
-use Rattle.agreement_laws.proofs.Lines.{IsWhole}
 use Rattle.agreement_laws.proofs.Stand.{who_sits, Made, Changed, changed_made, silent_made}
-use Rattle.agreement_laws.proofs.Accessing.{Accessed, accessed_made}
-use Rattle.agreement_laws.proofs.AccessStep.{way_value, hit_kept}
-use Rattle.agreement_laws.proofs.Sending.{call_kept, trap_kept, exit_kept, spot_acts}
-use Rattle.agreement_laws.proofs.Misses.{miss_kept}
-use Rattle.agreement_laws.proofs.Failing.{fail_kept, write_kept}
-use Rattle.agreement_laws.proofs.Loading.{byte_read, with_next, load_kept}
-use Rattle.agreement_laws.proofs.GoingOn.{spot_on, writes_here}
-use Rattle.agreement_laws.proofs.Silent.{reach_kept, probe_kept, sent_kept, missed_kept}
-use Rattle.agreement_laws.proofs.Pending.{plan_asks, pends, conditional_hits}
+use Rattle.agreement_laws.proofs.Accessing.{accessed_made}
+use Rattle.agreement_laws.proofs.AccessStep.{hit_kept}
+use Rattle.agreement_laws.proofs.Pending.{plan_asks}
 use Rattle.agreement_laws.proofs.Proper.{IsProper, step_proper}
 use Rattle.agreement_laws.proofs.Mapped.{granted_mapped}
-use Rattle.agreement_laws.proofs.Reserved.{values_hit, modified_stays}
-use Rattle.agreement_laws.proofs.StepValues.{stepped_same, nothing_same, writes_same, missed_same, waits_at, looks_at, writing_at, following_at}
+use Rattle.agreement_laws.proofs.Reserved.{modified_stays}
 use Rattle.agreement_laws.proofs.Whole.{All}
 
 -- what is to be shown of an act of tile x
@@ -99,7 +83,7 @@ changed_act {w} {s} {value} {f} a x t act action new low is busy commits thread 
 }
 
 -- AN ACCESS
-held_writable : (op : AccessOp) (hold : Hold) (content : LineData) → suits op hold ≡ true → is_write op ≡ true → IsWritable (held_as hold content)
+held_writable : (op : AccessOp) (hold : Hold) (content : LineData) → suits op hold ≡ true → access_want op ≡ ToWrite → IsWritable (held_as hold content)
 held_writable op M content enough write = tt
 held_writable Load S content enough write = cc
 held_writable Store S content enough write = cc
@@ -127,8 +111,8 @@ hit_act {w} {s} {value} {f} a x t access way low is run plan found enough step a
     let is_act : act ≡ accesses_by w t access (Some way) = ap (accesses_by w t access) found in
     let sound : Sound w s' (values_after w s (Step x) value) = subst (λ (z : Act). Sound w (changed s x (change_of (of_tile z))) (values_after w s (Step x) value)) step after in
     let here : s'.node x ≡ Tile act.tile = cond-true (x == x) _ _ (same_is x) in
-    let old : is_write access.op ≡ true → IsWritable (copy_of t.cache (line_at access.addr)) = λ write. subst (λ o. IsWritable (copy_in o)) (sym found) (held_writable access.op way.hold way.content enough write) in
-    let new : is_write access.op ≡ true → IsWritable (copy_at (s'.node x) (line_at access.addr)) = λ write.
+    let old : access_want access.op ≡ ToWrite → IsWritable (copy_of t.cache (line_at access.addr)) = λ write. subst (λ o. IsWritable (copy_in o)) (sym found) (held_writable access.op way.hold way.content enough write) in
+    let new : access_want access.op ≡ ToWrite → IsWritable (copy_at (s'.node x) (line_at access.addr)) = λ write.
     subst (λ n. IsWritable (copy_at n (line_at access.addr))) (sym here)
     (subst (λ (z : Act). IsWritable (copy_of z.tile.cache (line_at access.addr))) step (modified_stays w t (line_at access.addr) can node.2 (old write))) in
     let full : act ≡ _ = is_act ∙ cond-true (suits access.op way.hold) _ _ enough in

@@ -1,6 +1,5 @@
 -- Threads that are parked are woken: by a wake at their word, one after the other, or by the exit of the thread that they join.
-use Rattle.std.proofs.Common.{◌≡◌, ◌≢◌, ℕ, zero, suc, ◌+◌, ◌<◌, Bool, true, false, List, [], ◌∷◌, ◌++◌, length, map, slice_get, slice_set, Option, Some, None, refl, sym, ap, ◌∙◌, arith, inl, inr, subst}
-use Rattle.std.proofs.lemmas.Bool.Decides.{nat_tests}
+use Rattle.std.proofs.Common.{◌≡◌, ◌≢◌, ℕ, zero, suc, ◌+◌, true, false, List, [], ◌∷◌, ◌++◌, map, slice_get, slice_set, Option, Some, None, refl, sym, ap, ◌∙◌, inl, inr, subst}
 use Rattle.std.proofs.lemmas.Bool.{cases_Bool}
 use Rattle.std.specs.Prelude.{◌==◌, filter, find, slice_index, option_and_then}
 use Rattle.std.specs.Option.{option_map}
@@ -15,7 +14,7 @@ use Rattle.serving.specs.Join.{joiner_by, joiner_of}
 use Rattle.serving.specs.Wake.{waits_at, longest_at, without_thread, listed, woken, still_parked}
 use Rattle.serving.specs.Serving.{Woken, woken_with}
 use Rattle.clock_policy.specs.Members.{with_member}
-use Rattle.clock_policy.specs.Epoch.{Epoch, limit_of}
+use Rattle.clock_policy.specs.Epoch.{limit_of}
 use Rattle.flat_machine.specs.declared.threads.Thread.{Thread}
 use Rattle.flat_machine.specs.declared.threads.Status.{Status as FlatStatus}
 use Rattle.flat_machine.specs.declared.threads.Status.TheVariants.{Answered, Parked, Gone}
@@ -25,11 +24,10 @@ use Rattle.control_server.specs.Control.{Control, waits as is_by}
 use Rattle.control_server.specs.Serve.{caller_of, return_to, woken_mail, joined_by, join_all}
 use Rattle.event_journal.specs.State.{State}
 use Rattle.node_machine.specs.declared.nodes.Node.{Node}
-use Rattle.agreement_laws.specs.Phases.{Hart, Phase, Key, waits, told, tile_of}
-use Rattle.agreement_laws.specs.Sides.{Side, side, side_of, plain, place_of, targets_of, keys_of, checked_of, reports_of}
-use Rattle.agreement_laws.specs.Spots.{spot_at}
+use Rattle.agreement_laws.specs.Phases.{Hart, Phase, Key, waits, told}
+use Rattle.agreement_laws.specs.Sides.{Side, side, side_of, place_of, targets_of, keys_of, checked_of, reports_of}
 use Rattle.agreement_laws.specs.Kept.{KnowsTile, Fit, Kept}
-use Rattle.agreement_laws.proofs.Moves.{equal, same_is}
+use Rattle.agreement_laws.proofs.Moves.{same_is}
 use Rattle.agreement_laws.proofs.AfterServing.{Lives, IsLiveIn, fates_status}
 use Rattle.agreement_laws.proofs.Joins.{words_of, words_gone, words_left, targets_same, targets_gone}
 use Rattle.agreement_laws.proofs.Threads.{get_map}

@@ -1,6 +1,6 @@
 -- Parts of the law of one memory: what is kept agrees, it is so at the start, and what each kind of event keeps of it. This
 -- simulator's own.
-use Rattle.std.specs.Prelude.{ℕ, ◌≡◌, List, [], ◌∷◌, ◌++◌, Option, Some, None}
+use Rattle.std.specs.Prelude.{ℕ, ◌≡◌, List, [], ◌∷◌, ◌++◌, Some, None}
 use Rattle.sim_base.specs.Settings.{IsChecked}
 use Rattle.elf_image.specs.Layout.{Setup, initial_line}
 use Rattle.wire_msg.specs.declared.messages.Msg.{Msg}

@@ -1,5 +1,5 @@
 -- Parts of the law of one memory: what the control server and the local servers keep of it. This simulator's own.
-use Rattle.std.specs.Prelude.{ℕ, List, [], ◌∷◌, ◌++◌}
+use Rattle.std.specs.Prelude.{List, [], ◌∷◌, ◌++◌}
 use Rattle.sim_base.specs.Numbering.{control_node}
 use Rattle.sim_base.specs.Settings.{IsChecked}
 use Rattle.elf_image.specs.Layout.{Setup}
