@@ -24,7 +24,7 @@ use Rattle.flat_machine.proofs.MemoryLemmas.{same_test, tied, untied}
 use Rattle.flat_machine.proofs.ActLemmas.{moved_by, executed_by_act, served_by_act}
 
 -- a byte is written where one was
-byte_stays : (memory : FinMap nat_cmp ℕ) (a byte q : ℕ) → contains_key (with_byte memory a byte) q ≡ contains_key memory q
+pub byte_stays : (memory : FinMap nat_cmp ℕ) (a byte q : ℕ) → contains_key (with_byte memory a byte) q ≡ contains_key memory q
 byte_stays memory a byte q = by_key (contains_key memory a) refl where
   inserted : contains_key memory a ≡ true → contains_key (insert memory a byte) q ≡ contains_key memory q
   inserted there = elim (same_test q a) [
@@ -36,7 +36,7 @@ byte_stays memory a byte q = by_key (contains_key memory a) refl where
   by_key true there = inserted there
   by_key false away = refl
 
-bytes_stay : (memory : FinMap nat_cmp ℕ) (a : ℕ) (bytes : List ℕ) (q : ℕ) → contains_key (with_bytes with_byte memory a bytes) q ≡ contains_key memory q
+pub bytes_stay : (memory : FinMap nat_cmp ℕ) (a : ℕ) (bytes : List ℕ) (q : ℕ) → contains_key (with_bytes with_byte memory a bytes) q ≡ contains_key memory q
 bytes_stay memory a [] q = refl
 bytes_stay memory a (byte ∷ bytes) q = bytes_stay (with_byte memory a byte) (a + 1) bytes q ∙ byte_stays memory a byte q
 

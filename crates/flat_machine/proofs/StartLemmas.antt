@@ -58,7 +58,7 @@ padded (x ∷ xs) n zero = refl
 padded (x ∷ xs) n (suc i) = padded xs n i
 
 -- the byte that the first segment with the address gives it, else 0
-abbrev segments_byte : List Segment → ℕ → ℕ
+abbrev pub segments_byte : List Segment → ℕ → ℕ
 segments_byte segments q = option_map_or (λ s. byte_of s q) (find_in (λ s. holds s q) segments) 0
 
 bytes_fit : (s : Segment) → IsSegment s → length s.bytes ≤ s.memsz
@@ -77,7 +77,7 @@ found-segments (s ∷ ss) others q all =
     ])
 
 -- no segment has the address, so none gives it a byte
-no_byte : (segments : List Segment) (q : ℕ) → list_any (λ s. holds s q) segments ≡ false → segments_byte segments q ≡ 0
+pub no_byte : (segments : List Segment) (q : ℕ) → list_any (λ s. holds s q) segments ≡ false → segments_byte segments q ≡ 0
 no_byte [] q none = refl
 no_byte (s ∷ ss) q none =
     (elim (holds s q) as (λ t. (t || list_any (λ s. holds s q) ss) ≡ false → option_map_or (λ s. byte_of s q) (cond t (Some s) (find_in (λ s. holds s q) ss)) 0 ≡ 0) [
@@ -127,9 +127,26 @@ any-stacks w from (suc n) q =
     list_any-append (nat_eq q) (stack_addresses w from) (flat_map (stack_addresses w) (range_with_len (from + 1) n))
     ∙ any_of_both _ _ _ _ (any-range q w.config.stack_bytes (stack_start w from)) (any-stacks w (from + 1) n q)
 
+-- which addresses are mapped, and what the memory at the start has there
+pub mapped_where : (w : Setup) (q : ℕ) → list_any (nat_eq q) (mapped w)
+    ≡ ((list_any (λ s. holds s q) w.image.segments || has_address (heap_start w) w.config.heap_bytes q) || list_any (λ tile. has_address (stack_start w tile) w.config.stack_bytes q) (range_with_len 0 w.config.tiles))
+unfolding mapped
+mapped_where w q =
+    let heap : ℕ = w.config.heap_bytes in
+    let tiles : List ℕ = range_with_len 0 w.config.tiles in
+    let segments = w.image.segments in
+    list_any-append (nat_eq q) (flat_map addresses segments ++ range_with_len (heap_start w) heap) (flat_map (stack_addresses w) tiles)
+    ∙ any_of_both _ _ _ _
+    (list_any-append (nat_eq q) (flat_map addresses segments) (range_with_len (heap_start w) heap)
+    ∙ any_of_both _ _ _ _ (any-addresses segments q) (any-range q heap (heap_start w)))
+    (any-stacks w 0 w.config.tiles q)
+
+pub get-mapped : (w : Setup) (q : ℕ) → get (start_memory w) q ≡ cond (list_any (nat_eq q) (mapped w)) (Some (start_byte w q)) None
+unfolding start_memory
+get-mapped w q = get-from_entries nat_cmp_total _ q ∙ find-graph (start_byte w) q (mapped w)
+
 -- both memories have the same byte at each address
 pub get-start : (w : Setup) (q : ℕ) → AllByRecursion IsSegment w.image.segments → get (memory_of (start_regions w)) q ≡ get (start_memory w) q
-unfolding start_memory mapped
 get-start w q all =
     let heap : ℕ = w.config.heap_bytes in
     let tiles : List ℕ = range_with_len 0 w.config.tiles in
@@ -143,16 +160,11 @@ get-start w q all =
     ∙ found-segments segments (zeros_from (heap_start w) heap ∷ stacks) q all
     ∙ ap (cond is_segment (Some (segments_byte segments q)))
     (found-zeros (heap_start w) heap stacks q ∙ ap (cond is_heap (Some 0)) (found-stacks w 0 w.config.tiles q)) in
-    let tests : list_any (nat_eq q) (mapped w) ≡ ((is_segment || is_heap) || is_stack) =
-    list_any-append (nat_eq q) (flat_map addresses segments ++ range_with_len (heap_start w) heap) (flat_map (stack_addresses w) tiles)
-    ∙ any_of_both _ _ _ _
-    (list_any-append (nat_eq q) (flat_map addresses segments) (range_with_len (heap_start w) heap)
-    ∙ any_of_both _ _ _ _ (any-addresses segments q) (any-range q heap (heap_start w)))
-    (any-stacks w 0 w.config.tiles q) in
+    let tests : list_any (nat_eq q) (mapped w) ≡ ((is_segment || is_heap) || is_stack) = mapped_where w q in
     get-memory_of (start_regions w) q ∙ regions
     ∙ joined is_segment is_heap is_stack (segments_byte segments q) (no_byte segments q)
     ∙ ap (λ t. cond t (Some (start_byte w q)) None) (sym tests)
-    ∙ sym (get-from_entries nat_cmp_total _ q ∙ find-graph (start_byte w) q (mapped w))
+    ∙ sym (get-mapped w q)
 
 pub start_memory_of : (w : Setup) → IsProgram w.image → memory_of (start_regions w) ≡ start_memory w
 start_memory_of w h = same_map nat_cmp_total nat_cmp-IsAntisymmetric _ _ (λ q. get-start w q (recursion_from_All IsSegment w.image.segments h.each))

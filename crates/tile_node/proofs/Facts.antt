@@ -24,7 +24,7 @@ some_way c h = let r = in_range c h in omega (arith, r.some_way)
 pub ruleset cache_ranges = (some_set, some_way)
 
 -- an access lies in one line
-in_line : (addr size : ℕ) → IsTrue (is_size size) → addr % size ≡ 0 → addr % 64 + size ≤ 64
+pub in_line : (addr size : ℕ) → IsTrue (is_size size) → addr % size ≡ 0 → addr % 64 + size ≤ 64
 in_line addr size sized aligned = elim (cases_Bool (size == 1)) [
   | inl one ↦ let e : size ≡ 1 = eqb-true size 1 one in omega arith
   | inr no1 ↦ elim (cases_Bool (size == 2)) [
