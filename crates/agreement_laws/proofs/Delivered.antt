@@ -12,7 +12,7 @@ use Rattle.elf_image.specs.Layout.{Setup}
 use Rattle.wire_msg.specs.declared.messages.Msg.{Msg}
 use Rattle.wire_msg.specs.declared.messages.Msg.TheVariants.{Call, Return, Start, Exit, Trapped, Reached, Limit, Probe, ProbeReply}
 use Rattle.wire_msg.specs.Message.{may_send, line_of}
-use Rattle.clock_policy.specs.Probe.{may_go}
+use Rattle.clock_policy.specs.Probe.{may_go_on}
 use Rattle.flat_machine.specs.State.{State as Flat, started}
 use Rattle.flat_machine.specs.Action.{past_call}
 use Rattle.tile_core.specs.declared.cores.Status.{Status}
@@ -275,7 +275,7 @@ if_leaves t false x y p q = q
 reply_leaves : (w : Setup) (t : TileData) (goes : Bool) (clock : ℕ) (status : Status) → t.core.status ≡ status → Leaves t (reply_taken w t goes clock status)
 reply_leaves w t goes clock (Probing b partner replies) e =
     let some : t.core.status ≢ Idle = λ idle. (let z : Probing b partner replies ≡ Idle = sym e ∙ idle in cc) in
-    if_leaves t (may_go t.core.clock clock goes w.config.slack (replies + 1)) _ _ (record { action = refl; cache = refl; thread = refl; reservation = refl; busy = λ z. some })
+    if_leaves t (may_go_on t.core.clock clock goes w.config.slack (replies + 1)) _ _ (record { action = refl; cache = refl; thread = refl; reservation = refl; busy = λ z. some })
     (record { action = refl; cache = refl; thread = refl; reservation = refl; busy = λ z. some })
 reply_leaves w t goes clock _ e = quiet_leaves t
 
