@@ -7,7 +7,7 @@ use Rattle.sim_base.specs.Numbering.{control_node, local_node, host_of}
 use Rattle.elf_image.specs.Layout.{Setup}
 use Rattle.wire_msg.specs.declared.messages.Msg.{Msg}
 use Rattle.wire_msg.specs.declared.messages.Msg.TheVariants.{Return, Start, Limit, Probe, ProbeReply}
-use Rattle.clock_policy.specs.Probe.{may_go}
+use Rattle.clock_policy.specs.Probe.{may_go_on}
 use Rattle.flat_machine.specs.State.{State as Flat}
 use Rattle.tile_core.specs.declared.cores.Status.{Status}
 use Rattle.tile_core.specs.declared.cores.Status.TheVariants.{Idle, Run, Miss, Called, Writing, AtBarrier, Probing, Trapped as TrappedTile}
@@ -243,9 +243,9 @@ reply_kept {w} {s} {c} {f} k x t running clock low is = by_status t.core.status 
   by_status (Probing b partner replies) e =
       let goes = goes_here k x t (probing (work_in b t.core.write) partner replies) low is (ap (λ z. stance_in z t.core.write) e) refl in
       let phase = goes.phase_is ∙ ap (on (record { tile = x; regs = t.core.regs; pc = t.core.pc })) (is_probes goes.going (work_in b t.core.write) partner replies goes.stance_is) in
-      elim (cases_Bool (may_go t.core.clock clock running w.config.slack (replies + 1))) [
-        | inl may ↦ subst (λ (z : Act). Kept w (changed s x (change_of (of_tile z))) c f) (sym (cond-true (may_go t.core.clock clock running w.config.slack (replies + 1)) _ _ may)) (onward_so b partner replies phase)
-        | inr not ↦ subst (λ (z : Act). Kept w (changed s x (change_of (of_tile z))) c f) (sym (cond-false (may_go t.core.clock clock running w.config.slack (replies + 1)) _ _ not)) (again_so (work_in b t.core.write) b partner replies refl phase)
+      elim (cases_Bool (may_go_on t.core.clock clock running w.config.slack (replies + 1))) [
+        | inl may ↦ subst (λ (z : Act). Kept w (changed s x (change_of (of_tile z))) c f) (sym (cond-true (may_go_on t.core.clock clock running w.config.slack (replies + 1)) _ _ may)) (onward_so b partner replies phase)
+        | inr not ↦ subst (λ (z : Act). Kept w (changed s x (change_of (of_tile z))) c f) (sym (cond-false (may_go_on t.core.clock clock running w.config.slack (replies + 1)) _ _ not)) (again_so (work_in b t.core.write) b partner replies refl phase)
       ]
   by_status Idle e = quiet_kept k x t [] low is (λ to. refl)
   by_status Run e = quiet_kept k x t [] low is (λ to. refl)
