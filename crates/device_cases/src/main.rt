@@ -10,7 +10,8 @@
 //!   there, and no other file.
 //!
 //! Printed are the status without a fault, how many calls and bytes there were, and how many runs had a fault and how many of them
-//! came out otherwise. The numbers of the stored run were worked out by hand from the order of a call's steps and the report's form.
+//! came out otherwise. The numbers of the stored run follow from the order of a call's steps;
+//! the statuses and the lengths of the texts are also those of a simulator in C++ that shares no code with this one.
 #![tactic(auto)]
 
 mod calls;
