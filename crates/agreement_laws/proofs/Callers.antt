@@ -1,5 +1,5 @@
 -- What becomes of a thread whose request is served: it is answered, parked, or gets no answer; and the check of a futex wait.
-use Rattle.std.proofs.Common.{◌≡◌, ◌≢◌, ℕ, ◌<◌, false, List, [], ◌∷◌, slice_get, Option, Some, None, refl, sym, ap, ◌∙◌, arith, inl, inr, subst}
+use Rattle.std.proofs.Common.{true, ◌≡◌, ◌≢◌, ℕ, ◌<◌, false, List, [], ◌∷◌, slice_get, Option, Some, None, refl, sym, ap, ◌∙◌, arith, inl, inr, subst}
 use Rattle.std.proofs.lemmas.Bool.Decides.{nat_tests}
 use Rattle.std.proofs.lemmas.Bool.{cases_Bool}
 use Rattle.std.specs.Prelude.{◌==◌, filter, slice_index, option_and_then}
@@ -15,14 +15,14 @@ use Rattle.flat_machine.specs.declared.threads.Status.{Status as FlatStatus}
 use Rattle.flat_machine.specs.declared.threads.Status.TheVariants.{Answered, Parked}
 use Rattle.flat_machine.specs.State.{State as Flat, with_status}
 use Rattle.flat_machine.specs.Serving.{control_of}
-use Rattle.control_server.specs.Control.{Control, Waiting, Check, waits as is_by}
+use Rattle.control_server.specs.Control.{Control, Waiting, Check, waits as is_by, is_placed}
 use Rattle.event_journal.specs.State.{State, messages_to}
 use Rattle.node_machine.specs.declared.nodes.Node.{Node}
 use Rattle.agreement_laws.specs.Seen.{of_threads, naming}
 use Rattle.agreement_laws.specs.Phases.{Hart, Ask, plainly, by_write, call_of, Phase, asking, checking, waits, lost, told, tile_of, Key, status_asking}
 use Rattle.agreement_laws.specs.Sides.{Side, side, side_of, plain, place_of, keys_of, checked_of, reports_of, asked}
 use Rattle.agreement_laws.specs.Spots.{spot_at, seat, called}
-use Rattle.agreement_laws.specs.Kept.{KnowsTile, IsFull, Fit, Kept}
+use Rattle.agreement_laws.specs.Kept.{KnowsTile, IsAskable, Fit, Kept}
 use Rattle.agreement_laws.proofs.Moves.{fit_later, same_is}
 use Rattle.agreement_laws.proofs.Threads.{status_here, status_there}
 use Rattle.agreement_laws.proofs.Answering.{who_asks}
@@ -88,7 +88,7 @@ pub record IsAsker (w : Setup) (c : Control) (u : ℕ) (call : CallOf) (rest : L
   pub backlog : List Waiting
   pub checks : List Check
   pub asks : call_of ask ≡ call
-  pub full : IsFull ask
+  pub full : IsAskable ask
   pub low : h.tile < w.config.tiles
   pub place : tile_of p ≡ Some h.tile
   pub spot : spot_at u p ≡ seat u h called
@@ -161,8 +161,8 @@ asks_checked {w} {s} {c} {f} k check e =
       backlog = [];
       checks = (record { thread = u; from = h.tile; addr = a.1; value = a.2 }) ∷ [];
       asks = ap (λ (z : Check). FutexWait z.addr z.value) a.4;
-      full = tt;
-      low = fit;
+      full = fit.1;
+      low = fit.0;
       place = ap tile_of is_p;
       spot = ap (spot_at u) is_p;
       side = λ host. ap (side_of w u host) is_p;
@@ -274,6 +274,10 @@ get_silent home line to = elim (cases_Bool (home == to)) [ inl t ↦ rw t refl |
 get_unnamed : (home line x to : ℕ) → naming x (messages_to to ((home, GetS line) ∷ [])) ≡ []
 get_unnamed home line x to = elim (cases_Bool (home == to)) [ inl t ↦ rw t refl | inr t ↦ rw t refl ]
 
+word_placed : (ask : Ask) (addr value : ℕ) → call_of ask ≡ FutexWait addr value → IsAskable ask → is_placed (FutexWait addr value) ≡ true
+word_placed (plainly call) addr value e full = ap is_placed (sym e) ∙ full
+word_placed (by_write write) addr value e full = cc
+
 pub caller_checked : {w : Setup} {s : State Node Msg} {c : Control} {f : Flat} (k : Kept w s c f) (q : Waiting) (rest : List Waiting) (addr value home line : ℕ) → c.backlog ≡ q ∷ rest → q.request ≡ CallRequest (FutexWait addr value) → c.checking ≡ None
     → Kept w (post w s ((home, GetS line) ∷ [])) (record c { backlog = rest; checking = Some (record { thread = q.thread; from = q.from; addr = addr; value = value }) }) f
 caller_checked {w} {s} {c} {f} k q rest addr value home line e is none =
@@ -302,7 +306,7 @@ caller_checked {w} {s} {c} {f} k q rest addr value home line e is none =
         caller = refl;
       };
       knows = a.knows;
-      fit = a.low;
+      fit = (a.low, word_placed a.ask addr value a.asks a.full);
       ended = λ some. some;
       control = k.control;
     }) (posts_silent w u (k.phase u) p' ((home, GetS line) ∷ []) (get_silent home line) (get_unnamed home line) a.spot (no_starts a) (no_exits a))

@@ -8,10 +8,11 @@ use Rattle.rv_hart.specs.declared.reservations.Span.{Span}
 use Rattle.rv_hart.specs.declared.steps.Step.TheVariants.{Access}
 use Rattle.rv_hart.specs.Step.{next_step}
 use Rattle.elf_image.specs.Layout.{Setup}
+use Rattle.wire_msg.specs.declared.calls.Call.TheVariants.{FutexWait}
 use Rattle.wire_msg.specs.declared.messages.Msg.{Msg}
 use Rattle.flat_machine.specs.State.{State as Flat}
 use Rattle.flat_machine.specs.Serving.{control_of}
-use Rattle.control_server.specs.Control.{Control}
+use Rattle.control_server.specs.Control.{Control, is_placed}
 use Rattle.event_journal.specs.State.{State}
 use Rattle.node_machine.specs.declared.nodes.Node.{Node}
 use Rattle.node_machine.specs.declared.nodes.Node.TheVariants.{Local}
@@ -26,10 +27,11 @@ KnowsTile (checking h addr value) caller = caller ≡ h.tile
 KnowsTile (waits h key) caller = caller ≡ h.tile
 KnowsTile _ caller = Unit {0}
 
--- numbers in range; a write that asks has all its bytes; what is lost was lost after the end
-abbrev pub IsFull : Ask → Type 0
-IsFull (plainly call) = Unit {0}
-IsFull (by_write write) = write.len ≤ length write.got
+-- numbers in range; a call that asks is one of a run, and a write that asks has all its bytes; what is lost was lost after
+-- the end
+abbrev pub IsAskable : Ask → Type 0
+IsAskable (plainly call) = is_placed call ≡ true
+IsAskable (by_write write) = write.len ≤ length write.got
 
 -- an access that waits for its line is what the next instruction asks for, whatever is reserved by then
 abbrev pub Pends : Setup → List ℕ → ℕ → Asked → Type 0
@@ -47,11 +49,11 @@ abbrev pub Fit : Setup → Option End → Phase → Type 0
 Fit w ended (sent host entry arg time limit) = host < w.config.hosts
 Fit w ended (given tile entry arg time limit) = tile < w.config.tiles
 Fit w ended (on h going) = (h.tile < w.config.tiles) × Late going ended × Awaits w h going
-Fit w ended (calling h ask time) = (h.tile < w.config.tiles) × IsFull ask
-Fit w ended (asking h ask time) = (h.tile < w.config.tiles) × IsFull ask
-Fit w ended (checking h addr value) = h.tile < w.config.tiles
+Fit w ended (calling h ask time) = (h.tile < w.config.tiles) × IsAskable ask
+Fit w ended (asking h ask time) = (h.tile < w.config.tiles) × IsAskable ask
+Fit w ended (checking h addr value) = (h.tile < w.config.tiles) × (is_placed (FutexWait addr value) ≡ true)
 Fit w ended (waits h key) = h.tile < w.config.tiles
-Fit w ended (lost h ask) = (h.tile < w.config.tiles) × (IsFull ask × (ended ≢ None))
+Fit w ended (lost h ask) = (h.tile < w.config.tiles) × (IsAskable ask × (ended ≢ None))
 Fit w ended (told h value time limit) = h.tile < w.config.tiles
 Fit w ended (traps h cause) = h.tile < w.config.tiles
 Fit w ended (trapping h cause) = h.tile < w.config.tiles
